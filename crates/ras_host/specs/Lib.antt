@@ -1,0 +1,12 @@
+pub mod Causes
+pub mod Told
+pub mod Reads
+pub mod Names
+pub mod Calls
+pub mod Stored
+pub mod Pieces
+pub mod Created
+pub mod Memory
+pub mod MemoryHost
+pub mod Steady
+pub mod SteadyHost
