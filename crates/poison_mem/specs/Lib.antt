@@ -1,0 +1,13 @@
+pub mod Numbers
+pub mod Merge
+pub mod Bus
+pub mod Flat
+pub mod Short
+pub mod Asking
+pub mod Flips
+pub mod Plays
+pub mod Showing
+pub mod Line
+pub mod Level
+pub mod LineLaws
+pub mod Logs
