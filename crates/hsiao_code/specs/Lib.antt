@@ -1,0 +1,5 @@
+pub mod Code
+pub mod Linear
+pub mod Columns
+pub mod Reading
+pub mod Near
