@@ -1,0 +1,3 @@
+pub mod Counts
+pub mod Flips
+pub mod LineSteps

@@ -1,0 +1,52 @@
+-- The memory as a level by lines, the words of a line in rising order.
+use Rattle.std.specs.Prelude.{ℕ, zero, suc, ◌+◌, ◌*◌, false, List, [], ◌++◌, length, slice_set}
+use Rattle.poison_mem.specs.declared.cell.Cell.{Cell}
+use Rattle.poison_mem.specs.declared.cell.CellState.{CellState}
+use Rattle.poison_mem.specs.declared.line.Line.{Line}
+use Rattle.poison_mem.specs.declared.event.Event.{Event}
+use Rattle.poison_mem.specs.Line.{cell, line_by}
+use Rattle.poison_mem.specs.Level.{Level, CellCalls}
+use Rattle.ecc_memory.specs.Word.{word_read, word_put}
+use Rattle.ecc_memory.specs.Memory.{word_at, memory_flips}
+
+-- what a read of word w shows
+abbrev pub shown_at : List CellState → ℕ → Cell
+shown_at cells w = (word_read false w (word_at cells w)).cell
+
+-- what reads of the words of line l show
+abbrev pub shown_line : List CellState → ℕ → Line
+shown_line cells l = line_by (λ i. shown_at cells (8 * l + i))
+
+-- the memory after the first n words of line l were read
+unfoldable pub after_reads : List CellState → ℕ → ℕ → List CellState
+after_reads cells l zero = cells
+after_reads cells l (suc n) = slice_set (after_reads cells l n) (8 * l + n) (word_read false (8 * l + n) (word_at cells (8 * l + n))).after
+
+-- the events of these reads, in order
+unfoldable pub read_events : List CellState → ℕ → ℕ → List Event
+read_events cells l zero = []
+read_events cells l (suc n) = read_events cells l n ++ (word_read false (8 * l + n) (word_at cells (8 * l + n))).events
+
+-- the memory after the first n cells of line l were put
+unfoldable pub after_puts : List CellState → ℕ → Line → ℕ → List CellState
+after_puts cells l line zero = cells
+after_puts cells l line (suc n) = slice_set (after_puts cells l line n) (8 * l + n) (word_put (cell line n) (word_at cells (8 * l + n)))
+
+-- the memory is a level: a read of a line reads its eight words, a put puts its eight cells
+abbrev pub memory_level : Level (List CellState)
+memory_level = record {
+  words = length;
+  get = λ cells l. record { cells = shown_line cells l; after = after_reads cells l 8; events = read_events cells l 8 };
+  put = λ cells l line. record { after = after_puts cells l line 8; events = [] };
+  peek = shown_line;
+}
+
+-- and its words take flips
+abbrev pub memory_calls : CellCalls (List CellState)
+memory_calls = record {
+  load = memory_flips.load;
+  strike = memory_flips.strike;
+  is_third = memory_flips.is_third;
+  scrub = memory_flips.scrub;
+  cell = memory_flips.cell;
+}
