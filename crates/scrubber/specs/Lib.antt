@@ -1,0 +1,2 @@
+pub mod PatrolState
+pub mod Patrol

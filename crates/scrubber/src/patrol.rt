@@ -1,0 +1,87 @@
+//! The patrol: one word is scrubbed every so many steps, and the words come in turn.
+
+ghost use Rattle.std.specs.Prelude.{◌≡◌, ◌<◌, ◌/◌, ℕ};
+ghost use Rattle.scrubber.specs.PatrolState.{PatrolState};
+ghost use Rattle.scrubber.specs.Patrol.{new_patrol, due_at, moved_on, moved_to, place_after, after_steps};
+
+use std::marker::Model;
+
+/// A patrol over the words of a memory.
+#[derive(Drop)]
+pub struct Patrol {
+    every: u64,
+    words: u32,
+    place: u32,
+}
+
+impl Model for Patrol {
+    ghost use Rattle.std.specs.Prelude.{◌<◌};
+    ghost use Rattle.scrubber.specs.PatrolState.{PatrolState};
+
+    ghost Value = { PatrolState };
+
+    ghost view = { λ p. record { every = p.every; words = p.words; place = p.place } };
+
+    ghost invariant = { λ p. p.place < p.words };
+}
+
+impl Patrol {
+    /// A patrol over `words` words, due every `every` steps; with 0 it is never due. The place is 0.
+    ///
+    /// There is at least one word.
+    pub fn new(every: u64, words: u32) -> Patrol
+        requires { 0 < words }
+        ensures { result ≡ new_patrol every words }
+    {
+        Patrol {
+            every,
+            words,
+            place: 0,
+        }
+    }
+
+    /// The word to scrub in step `n`: there is one exactly in the last of each `every` steps.
+    pub fn due(&self, n: u64) -> Option<u32>
+        ensures { result ≡ due_at self.now n }
+    {
+        if self.every > 0 && n % self.every == self.every - 1 {
+            Some(self.place)
+        } else {
+            None
+        }
+    }
+
+    /// Moves on to the next word, from the last one to the first.
+    pub fn done(&mut self)
+        ensures { self.new ≡ moved_on self.old }
+    {
+        self.place = if self.place + 1 == self.words {
+            0
+        } else {
+            self.place + 1
+        };
+    }
+
+    /// The word that is scrubbed next.
+    pub fn place(&self) -> u32
+        ensures place { result ≡ self.now.place }
+        ensures within { result < self.now.words }
+    {
+        self.place
+    }
+
+    /// Sets the word that is scrubbed next. There is such a word.
+    pub fn set_place(&mut self, p: u32)
+        requires { p < self.old.words }
+        ensures { self.new ≡ moved_to self.old p }
+    {
+        self.place = p;
+    }
+}
+
+/// After `n` steps, in each of which a due patrol is done, the place is where it began and one word on for each
+/// whole `every` steps, modulo the words: the words are scrubbed in turn, one every `every` steps.
+pub fn scrubs_the_words_in_turn()
+    ensures { (p : PatrolState) (n : ℕ) → p.place < p.words → 0 < p.every
+        → (after_steps p n).place ≡ place_after p (n / p.every) }
+{}
