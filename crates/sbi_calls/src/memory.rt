@@ -1,0 +1,33 @@
+//! The memory of a console call.
+
+ghost use Rattle.std.specs.Prelude.{◌≡◌, ℕ, ◌+◌, ◌<◌, ◌↔◌, IsSome};
+ghost use Rattle.sbi_calls.specs.Span.{span_of, IsInRam};
+
+/// The physical address of RAM's first byte.
+const RAM_BASE: u64 = 0x8000_0000;
+
+/// The most bytes that one call takes.
+const MOST_BYTES: u64 = 4096;
+
+/// The bytes of a console call that names `n` bytes at the physical address `hi` · 2^64 + `lo`, in a
+/// machine whose RAM has `words` words of 64 bits: the address of the first byte and the number of the
+/// bytes taken, which is at most 4,096.
+///
+/// `None` exactly where the call is refused as SBI_ERR_INVALID_PARAM (-3): where `hi` isn't 0, or where
+/// `n` isn't 0 and the `n` bytes don't all lie in RAM. With `n` 0 and `hi` 0 any `lo` will do.
+pub fn span(n: u64, lo: u64, hi: u64, words: u32) -> Option<(u64, u64)>
+    ensures value { result ≡ span_of n lo hi words }
+    ensures all_in_ram { IsSome result ↔ ((hi ≡ 0) × ((i : ℕ) → i < n → IsInRam words (lo + i))) }
+{
+    if hi != 0 {
+        return None;
+    }
+    if n == 0 {
+        return Some((lo, 0));
+    }
+    let end = RAM_BASE + 8 * words as u64;
+    if lo < RAM_BASE || lo >= end || end - lo < n {
+        return None;
+    }
+    Some((lo, n.min(MOST_BYTES)))
+}
