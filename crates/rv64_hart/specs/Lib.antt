@@ -1,0 +1,5 @@
+pub mod State
+pub mod Access
+pub mod Turn
+pub mod Within
+pub mod Laws
