@@ -1,0 +1,5 @@
+pub mod Fold
+pub mod Registers
+pub mod Stands
+pub mod Reach
+pub mod Places

@@ -1,0 +1,11 @@
+use Rattle.reri_bank.proofs.Reach.{shown_reachable, reached, held_stands}
+use Rattle.reri_bank.proofs.views.reachable_views_are_those_of_events.Goals as goal
+
+pub returns-clause-shown : goal.returns-clause-shown
+returns-clause-shown c = shown_reachable
+
+pub returns-clause-reached : goal.returns-clause-reached
+returns-clause-reached c = reached
+
+pub returns-clause-stands : goal.returns-clause-stands
+returns-clause-stands c = held_stands

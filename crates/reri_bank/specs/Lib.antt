@@ -1,0 +1,9 @@
+pub mod Record
+pub mod Views
+pub mod Layout
+pub mod State
+pub mod BankState
+pub mod Bank
+pub mod BanksState
+pub mod Banks
+pub mod Place

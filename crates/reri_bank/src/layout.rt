@@ -1,0 +1,193 @@
+//! The bits of a record's registers.
+
+ghost use Rattle.std.specs.Prelude.{◌≡◌, ◌<◌, ℕ, Bool, true, Some, IfSome};
+ghost use Rattle.std.specs.Option.{option_copied};
+ghost use Rattle.poison_mem.specs.declared.event.RecordView.{RecordView};
+ghost use Rattle.reri_bank.specs.Layout.{bit, control_word, control_value, status_word, status_of_view, shown_count, number_of, stands_for_record, view_value, with_handed};
+ghost use Rattle.reri_bank.specs.Views.{greatest_flag, IsSound, PriFits};
+
+use poison_mem::{Class, Event, RecordView};
+use ras_bits::get_field;
+
+/// What a record does with its events: bits 7:0 of its control register.
+#[derive(Clone, Copy, Debug, PartialEq, Eq)]
+pub struct Control {
+    /// Events are logged (`else`).
+    pub logging: bool,
+    /// The count of corrected errors is shown; they are counted all the same.
+    pub cece: bool,
+    /// How corrected errors are signalled to the firmware, below 4; 0 is not at all.
+    pub ces: u8,
+    /// How deferred errors are signalled, likewise.
+    pub ueds: u8,
+    /// How critical errors are signalled, likewise.
+    pub uecs: u8,
+}
+
+/// One bit of a register.
+pub(crate) fn bit(value: u64, place: u32) -> bool
+    requires { place < 64 }
+    ensures { result ≡ bit value place }
+{
+    get_field(value, place, 1) == 1
+}
+
+/// The control register with the fields of `c`, and in bits 63:48 the steps left of a staged injection.
+///
+/// `ces`, `ueds` and `uecs` are below 4.
+pub fn control_bits(c: Control, eid: u16) -> u64
+    requires ces { c.ces < 4 }
+    requires ueds { c.ueds < 4 }
+    requires uecs { c.uecs < 4 }
+    ensures word { result ≡ control_word c eid }
+    ensures back { control_value result ≡ c }
+{
+    u64::from(c.logging)
+        + 0x2 * u64::from(c.cece)
+        + 0x4 * u64::from(c.ces)
+        + 0x10 * u64::from(c.ueds)
+        + 0x40 * u64::from(c.uecs)
+        + 0x1_0000_0000_0000 * u64::from(eid)
+}
+
+/// What bits 7:0 of a control register say.
+pub fn control_of(v: u64) -> Control
+    ensures value { result ≡ control_value v }
+    ensures ces { result.ces < 4 }
+    ensures ueds { result.ueds < 4 }
+    ensures uecs { result.uecs < 4 }
+{
+    Control {
+        logging: bit(v, 0),
+        cece: bit(v, 1),
+        ces: get_field(v, 2, 2) as u8,
+        ueds: get_field(v, 4, 2) as u8,
+        uecs: get_field(v, 6, 2) as u8,
+    }
+}
+
+/// The number of corrected errors that is shown.
+fn shown_count(view: &RecordView, cece: bool) -> u16
+    ensures { result ≡ shown_count view.now cece }
+{
+    if cece { view.cec } else { 0 }
+}
+
+/// A bit as a number.
+fn number_of(is_set: bool) -> u64
+    ensures { result ≡ number_of is_set }
+{
+    if is_set { 1 } else { 0 }
+}
+
+/// The status register of a view.
+fn status_of_view(view: &RecordView, cece: bool, rdip: bool) -> u64
+    requires { view.now.kept.pri < 4 }
+    ensures { result ≡ status_of_view view.now cece rdip }
+{
+    let code = view.kept.code;
+    let pri = view.kept.pri;
+    let count = shown_count(view, cece);
+    0x401
+        + 0x2 * number_of(view.ce)
+        + 0x4 * number_of(view.ued)
+        + 0x8 * number_of(view.uec)
+        + 0x10 * u64::from(pri)
+        + 0x40 * number_of(view.mo)
+        + 0x80 * number_of(view.ceco & cece)
+        + 0x100 * number_of(rdip)
+        + 0x200 * number_of(view.kept.scrub)
+        + 0x1_0000 * u64::from(code)
+        + 0x1_0000_0000_0000 * u64::from(count)
+}
+
+/// The status register of a record that keeps this view, or 0 of an empty one.
+///
+/// A given view has a `pri` below 4. With `cece` clear the count of corrected errors reads 0.
+pub fn status_bits(v: Option<&RecordView>, cece: bool, rdip: bool) -> u64
+    requires { PriFits (option_copied v) }
+    ensures { result ≡ status_word (option_copied v.entry) cece rdip }
+{
+    match v {
+        None => 0,
+        Some(view) => status_of_view(view, cece, rdip),
+    }
+}
+
+/// Whether a status stands for a record.
+fn stands_for_record(status: u64) -> bool
+    ensures { result ≡ stands_for_record status }
+{
+    let is_valid = bit(status, 0) & bit(status, 10);
+    let is_flagged = bit(status, 1) | bit(status, 2) | bit(status, 3);
+    let is_clear = (get_field(status, 11, 5) == 0) & (get_field(status, 24, 24) == 0);
+    let is_full = get_field(status, 48, 16) == 65535;
+    is_valid & is_flagged & is_clear & (!bit(status, 7) | is_full)
+}
+
+/// The greatest class that is flagged, where one is.
+fn greatest_flag(ued: bool, uec: bool) -> Class
+    ensures { result ≡ greatest_flag ued uec }
+{
+    if uec {
+        Class::Critical
+    } else if ued {
+        Class::Deferred
+    } else {
+        Class::Corrected
+    }
+}
+
+/// The view that a record's registers stand for; it is sound.
+///
+/// None exactly where the status stands for no record: `v` or `av` is clear, no class is flagged, one of bits 15:11 and
+/// 47:24 is set, or `ceco` is set beside a count that isn't full.
+pub fn view_of(
+    status: u64,
+    addr: u64,
+    info: u64,
+    suppl: u64,
+    time: u64,
+    bank: u8,
+    rec: u8,
+) -> Option<RecordView>
+    ensures value { result ≡ view_value status addr info suppl time bank rec }
+    ensures sound { IfSome result IsSound }
+{
+    if !stands_for_record(status) {
+        return None;
+    }
+    let ued = bit(status, 2);
+    let uec = bit(status, 3);
+    let kept = Event {
+        bank,
+        rec,
+        class: greatest_flag(ued, uec),
+        pri: get_field(status, 4, 2) as u8,
+        code: get_field(status, 16, 8) as u8,
+        scrub: bit(status, 9),
+        addr,
+        info,
+        suppl,
+        at: time,
+    };
+    Some(RecordView {
+        kept,
+        ce: bit(status, 1),
+        ued,
+        uec,
+        mo: bit(status, 6),
+        cec: get_field(status, 48, 16) as u16,
+        ceco: bit(status, 7),
+    })
+}
+
+/// Of a sound view the status register, with its count shown, gives that view back, with what the other registers hand.
+pub fn views_come_back_from_their_registers(v: &RecordView)
+    ensures { IsSound v.now → (rdip : Bool) (addr info suppl time bank rec : ℕ) →
+        view_value (status_word (Some v.now) true rdip) addr info suppl time bank rec
+        ≡ Some (with_handed v.now addr info suppl time bank rec) }
+{
+    let _count = v.cec;
+    let _code = v.kept.code;
+}
