@@ -1,0 +1,22 @@
+-- The tables sum to 0, and their sources are read one by one.
+use Rattle.std.proofs.Common.{◌≡◌, ℕ, zero, suc, ◌+◌, ◌-◌, ◌<◌, ◌≤◌, List, refl, ap, arith}
+use Rattle.std.proofs.lemmas.Bool.{le-ltb}
+use Rattle.ras_bits.specs.Fields.{number_at}
+use Rattle.byte_fields.specs.Fields.{little, zeros}
+use Rattle.acpi_tables.specs.Layout.{SumsToZero, hest_bytes, bert_bytes, generic_source}
+use Rattle.acpi_tables.specs.Reading.{sources_from, source_place}
+
+pub hest_sums : SumsToZero hest_bytes
+unfolding little zeros
+hest_sums = refl
+
+pub bert_sums : SumsToZero bert_bytes
+unfolding little zeros
+bert_sums = refl
+
+-- one source is looked at, and then the next
+pub source_read : (end : ℕ) (b : List ℕ) (i left : ℕ) → 0 < left → source_place i + 64 ≤ end → number_at 2 (source_place i) b ≡ generic_source
+    → sources_from end b i left ≡ sources_from end b (i + 1) (left - 1)
+source_read end b i zero some whole kind = absurd (omega arith)
+source_read end b i (suc left) some whole kind =
+    rw (le-ltb _ _ whole, kind) (ap (sources_from end b (i + 1)) (omega arith))

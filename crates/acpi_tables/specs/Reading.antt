@@ -1,0 +1,111 @@
+-- What the readers answer, the first rule that is broken in the order of the tests.
+use Rattle.std.specs.Prelude.{ℕ, zero, suc, ◌+◌, ◌*◌, ◌%◌, not, ◌==◌, nat_lt, if◌then◌else◌, List, [], ◌∷◌, ◌++◌, length, take, sum, codes, Option, Some, None, Result, Ok, Err}
+use Rattle.arrayvec.specs.ArrayVec.{ArrayVec}
+use Rattle.ras_bits.specs.Fields.{field, number_at}
+use Rattle.ras_bits.specs.declared.terms.SectionAt.{SectionAt}
+use Rattle.byte_fields.specs.Fields.{bytes_at}
+use Rattle.acpi_tables.specs.Layout.{block_header_length, bert_length, entry_header_length, generic_source, least_hest}
+use Rattle.acpi_tables.specs.declared.refused.TableRefused.{TableRefused}
+use Rattle.acpi_tables.specs.declared.refused.TableRefused.TheVariants as refused
+use Rattle.acpi_tables.specs.declared.table_reading.HestView.{HestView}
+use Rattle.acpi_tables.specs.declared.table_reading.BertView.{BertView}
+use Rattle.acpi_tables.specs.declared.block_reading.BlockView.{BlockView}
+
+infixl 10 ◌>>=◌
+abbrev pub ◌>>=◌ : {A B : Type 0} → Result A TableRefused → (A → Result B TableRefused) → Result B TableRefused
+(Ok x) >>= f = f x
+(Err e) >>= f = Err e
+
+-- ---- tables
+
+-- the header's Signature and Length
+abbrev pub signature_of : List ℕ → ℕ
+signature_of b = number_at 4 0 b
+
+abbrev pub table_length : List ℕ → ℕ
+table_length b = number_at 4 4 b
+
+-- the length of the table at the front, which has its signature, at least so many bytes, all of them there, and
+-- bytes that sum to 0
+unfoldable pub table_of : List ℕ → ℕ → List ℕ → Result ℕ TableRefused
+table_of signature least b =
+    if nat_lt (length b) least then Err refused.Short
+    else if not (signature_of b == signature_of signature) then Err refused.Signature
+    else if nat_lt (table_length b) least then Err refused.Length
+    else if nat_lt (length b) (table_length b) then Err refused.Length
+    else if not (sum (take (table_length b) b) % 256 == 0) then Err refused.Sum
+    else Ok (table_length b)
+
+-- HEST's Error Source Count, and the place of source i
+abbrev pub source_count : List ℕ → ℕ
+source_count b = number_at 4 36 b
+
+abbrev pub source_place : ℕ → ℕ
+source_place i = least_hest + 64 * i
+
+-- of the sources from number i on, so many, the first that passes the table's end or has another type
+abbrev pub sources_from : ℕ → List ℕ → ℕ → ℕ → Result (Unit {0}) TableRefused
+sources_from end b i zero = Ok tt
+sources_from end b i (suc left) =
+    if nat_lt end (source_place i + 64) then Err (refused.Source i)
+    else if not (number_at 2 (source_place i) b == generic_source) then Err (refused.Source i)
+    else sources_from end b (i + 1) left
+
+unfoldable pub hest_of : List ℕ → Result HestView TableRefused
+hest_of b = do
+  end ← table_of (codes "HEST") least_hest b
+  sources ← sources_from end b 0 (source_count b)
+  Ok (record { sources = source_count b })
+
+unfoldable pub bert_of : List ℕ → Result BertView TableRefused
+bert_of b = do
+  end ← table_of (codes "BERT") bert_length b
+  Ok (record { length = number_at 4 36 b; address = number_at 8 40 b })
+
+-- ---- status blocks
+
+-- Data Length, and the number of entries in Block Status
+abbrev pub block_data_length : List ℕ → ℕ
+block_data_length b = number_at 4 12 b
+
+abbrev pub entry_count : List ℕ → ℕ
+entry_count b = field (number_at 4 0 b) 4 10
+
+-- of the entry at a place: Error Data Length, and the place behind its section
+abbrev pub section_length : List ℕ → ℕ → ℕ
+section_length b at = number_at 4 (at + 24) b
+
+abbrev pub entry_end : List ℕ → ℕ → ℕ
+entry_end b at = at + entry_header_length + section_length b at
+
+-- the FRU Text, where its bit of Validation Bits is set
+abbrev pub fru_at : List ℕ → ℕ → Option (List ℕ)
+fru_at b at = if field (number_at 1 (at + 22) b) 1 1 == 1 then Some (bytes_at 20 (at + 44) b) else None
+
+-- the section of the entry at a place
+unfoldable pub section_at : List ℕ → ℕ → SectionAt
+section_at b at = record {
+  kind = bytes_at 16 at b;
+  start = at + entry_header_length;
+  length = section_length b at;
+  severity = number_at 4 (at + 16) b;
+  fru = fru_at b at;
+}
+
+-- the sections that were taken, and those of the entries from number i and a place on, so many; each lies before
+-- the end, and nothing is left
+abbrev pub entries_from : ℕ → List ℕ → List SectionAt → ℕ → ℕ → ℕ → Result (ArrayVec SectionAt) TableRefused
+entries_from end b taken i zero at = if at == end then Ok (record { items = taken }) else Err refused.Length
+entries_from end b taken i (suc left) at =
+    if nat_lt end (at + entry_header_length) then Err (refused.Entry i)
+    else if nat_lt end (entry_end b at) then Err (refused.Entry i)
+    else entries_from end b (taken ++ section_at b at ∷ []) (i + 1) left (entry_end b at)
+
+unfoldable pub block_of : List ℕ → Result BlockView TableRefused
+block_of b =
+    if nat_lt (length b) block_header_length then Err refused.Short
+    else if nat_lt (length b) (block_header_length + block_data_length b) then Err refused.Length
+    else if nat_lt 16 (entry_count b) then Err refused.Length
+    else (do
+      sections ← entries_from (block_header_length + block_data_length b) b [] 0 (entry_count b) block_header_length
+      Ok (record { status = number_at 4 0 b; severity = number_at 4 16 b; entries = sections }))

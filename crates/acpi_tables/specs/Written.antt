@@ -1,0 +1,36 @@
+-- What the readers find in what was written.
+use Rattle.std.specs.Prelude.{◌≡◌, ℕ, ◌+◌, ◌<◌, ◌^◌, List, [], ◌∷◌, length, Some}
+use Rattle.ras_bits.specs.declared.terms.SectionAt.{SectionAt}
+use Rattle.acpi_tables.specs.Layout.{block_header_length, block_status, entry_header_length, entry_length, worst_severity}
+use Rattle.acpi_tables.specs.declared.blocks.Entry.{Entry}
+use Rattle.acpi_tables.specs.declared.block_reading.BlockView.{BlockView}
+
+-- the lengths and numbers of an entry are those of its type
+pub record IsEntry (e : Entry) : Type 0 where
+  pub kind : length e.kind ≡ 16
+  pub severity : e.severity < 2 ^ 32
+  pub fru : length e.fru ≡ 20
+  pub body : length e.body.items < 2 ^ 32
+
+-- the section of an entry that stands at a place
+abbrev pub section_of : ℕ → Entry → SectionAt
+section_of at e = record {
+  kind = e.kind;
+  start = at + entry_header_length;
+  length = length e.body.items;
+  severity = e.severity;
+  fru = Some e.fru;
+}
+
+-- the sections of entries, the first of which stands at a place
+abbrev pub sections_of : ℕ → List Entry → List SectionAt
+sections_of at [] = []
+sections_of at (e ∷ entries) = section_of at e ∷ sections_of (at + entry_length e) entries
+
+-- what the block of these entries says
+abbrev pub view_of : List Entry → BlockView
+view_of entries = record {
+  status = block_status entries;
+  severity = worst_severity entries;
+  entries = record { items = sections_of block_header_length entries };
+}

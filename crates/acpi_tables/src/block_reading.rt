@@ -1,0 +1,93 @@
+//! Status blocks, read back.
+
+ghost use Rattle.std.specs.Prelude.{◌≡◌, ◌+◌, ◌≤◌, ◌<◌, ◌^◌, [], length};
+ghost use Rattle.acpi_tables.specs.Reading.{block_of, entries_from, section_at};
+
+use crate::blocks::{ENTRY_LENGTH, HEADER_LENGTH};
+use crate::refused::TableRefused;
+use arrayvec::ArrayVec;
+use byte_fields::{array_at, u8_at};
+use ras_bits::{SectionAt, get_field, u32_at};
+
+/// What a status block says.
+#[derive(Drop)]
+pub struct BlockView {
+    /// The Block Status: bits 0 and 1 an uncorrected and a corrected error, bits 2 and 3 several of these, and from bit 4
+    /// on the number of entries.
+    pub status: u32,
+    /// The severity of the block.
+    pub severity: u32,
+    /// The sections, in the order of the entries; their places count from the block's first byte.
+    pub entries: ArrayVec<SectionAt, 16>,
+}
+
+/// Reads the status block at the front (ACPI, "Generic Error Status Block"). There are fewer than 2^32 bytes.
+#[tactic(auto, unfolding(crate::specs::Reading::block_of))]
+pub fn read_block(b: &[u8]) -> Result<BlockView, TableRefused>
+    requires { length b.now < 2 ^ 32 }
+    ensures { result ≡ block_of b.now }
+{
+    if b.len() < HEADER_LENGTH {
+        return Err(TableRefused::Short);
+    }
+    let status = u32_at(b, 0);
+    let end = HEADER_LENGTH + u32_at(b, 12) as usize;
+    let count = get_field(u64::from(status), 4, 10) as u32;
+    if b.len() < end || count > 16 {
+        return Err(TableRefused::Length);
+    }
+    let entries = read_entries(end, b, count)?;
+    Ok(BlockView {
+        status,
+        severity: u32_at(b, 16),
+        entries,
+    })
+}
+
+// The sections of so many entries, which fill the bytes from the block's header up to the end.
+fn read_entries(end: usize, b: &[u8], count: u32) -> Result<ArrayVec<SectionAt, 16>, TableRefused>
+    requires few { count ≤ 16 }
+    requires data { 20 ≤ end }
+    requires there { end ≤ length b.now }
+    requires places { length b.now < 2 ^ 32 }
+    ensures { result ≡ entries_from end b.now [] 0 count 20 }
+{
+    let mut entries = ArrayVec::new();
+    let mut at = HEADER_LENGTH;
+    for i in 0..count {
+        if end < at + ENTRY_LENGTH {
+            return Err(TableRefused::Entry(i));
+        }
+        let entry_end = at + ENTRY_LENGTH + u32_at(b, at + 24) as usize;
+        if end < entry_end {
+            return Err(TableRefused::Entry(i));
+        }
+        entries.push(section_at(b, at));
+        at = entry_end;
+    }
+    if at != end {
+        return Err(TableRefused::Length);
+    }
+    Ok(entries)
+}
+
+// The section of the entry at a place.
+#[tactic(auto, unfolding(crate::specs::Reading::section_at))]
+fn section_at(b: &[u8], at: usize) -> SectionAt
+    requires there { at + 72 ≤ length b.now }
+    requires places { length b.now < 2 ^ 32 }
+    ensures { result ≡ section_at b.now at }
+{
+    let has_fru = get_field(u64::from(u8_at(b, at + 22)), 1, 1) == 1;
+    SectionAt {
+        kind: array_at(b, at),
+        start: (at + ENTRY_LENGTH) as u32,
+        length: u32_at(b, at + 24),
+        severity: u32_at(b, at + 16),
+        fru: if has_fru {
+            Some(array_at(b, at + 44))
+        } else {
+            None
+        },
+    }
+}
