@@ -1,0 +1,100 @@
+-- What the reader of records answers, the first rule that is broken in the order of the tests.
+use Rattle.std.specs.Prelude.{ℕ, zero, suc, ◌+◌, ◌*◌, ◌≤◌, Bool, not, ◌&&◌, ◌==◌, nat_lt, nat_le, if◌then◌else◌, List, [], ◌∷◌, ◌++◌, length, codes, Option, Some, None, Result, Ok, Err}
+use Rattle.arrayvec.specs.ArrayVec.{ArrayVec}
+use Rattle.ras_bits.specs.Fields.{field, number_at}
+use Rattle.ras_bits.specs.declared.terms.SectionAt.{SectionAt}
+use Rattle.byte_fields.specs.Fields.{bytes_at}
+use Rattle.cper_sections.specs.Layout.{descriptor_length, header_length}
+use Rattle.cper_sections.specs.declared.reading.Cper.{Cper}
+use Rattle.cper_sections.specs.declared.reading.CperRefused.{CperRefused}
+use Rattle.cper_sections.specs.declared.reading.CperRefused.TheVariants as refused
+
+infixl 10 ◌>>=◌
+abbrev pub ◌>>=◌ : {A B : Type 0} → Result A CperRefused → (A → Result B CperRefused) → Result B CperRefused
+(Ok x) >>= f = f x
+(Err e) >>= f = Err e
+
+-- the header's Signature Start, Signature End, Record Length and Section Count
+abbrev pub signature_start : List ℕ → ℕ
+signature_start b = number_at 4 0 b
+
+abbrev pub signature_end : List ℕ → ℕ
+signature_end b = number_at 4 6 b
+
+abbrev pub record_length : List ℕ → ℕ
+record_length b = number_at 4 20 b
+
+abbrev pub section_count : List ℕ → ℕ
+section_count b = number_at 2 10 b
+
+-- the place of descriptor i
+abbrev pub descriptor_place : ℕ → ℕ
+descriptor_place i = header_length + descriptor_length * i
+
+-- where the descriptors end
+abbrev pub descriptors_end : List ℕ → ℕ
+descriptors_end b = descriptor_place (section_count b)
+
+-- so many descriptors lie in the bytes, 16 at most
+pub record HasDescriptors (b : List ℕ) : Type 0 where
+  pub few : section_count b ≤ 16
+  pub there : descriptors_end b ≤ length b
+
+-- a header is there, and the record and its descriptors lie in the bytes
+unfoldable pub header_kept : List ℕ → Result (Unit {0}) CperRefused
+header_kept b =
+    if nat_lt (length b) header_length then Err refused.Short
+    else if not (signature_start b == signature_start (codes "CPER")) then Err refused.Signature
+    else if not (signature_end b == 0xFFFFFFFF) then Err refused.EndMark
+    else if nat_lt (record_length b) header_length then Err refused.Length
+    else if nat_lt (length b) (record_length b) then Err refused.Length
+    else if section_count b == 0 then Err refused.Sections
+    else if nat_lt 16 (section_count b) then Err refused.Sections
+    else if nat_lt (record_length b) (descriptors_end b) then Err refused.Sections
+    else Ok tt
+
+-- of the descriptor at a place: Section Offset, Section Length, and the FRU Text, where its bit of Validation Bits is set
+abbrev pub section_offset : List ℕ → ℕ → ℕ
+section_offset b at = number_at 4 at b
+
+abbrev pub section_length : List ℕ → ℕ → ℕ
+section_length b at = number_at 4 (at + 4) b
+
+abbrev pub fru_at : List ℕ → ℕ → Option (List ℕ)
+fru_at b at = if field (number_at 1 (at + 10) b) 1 1 == 1 then Some (bytes_at 20 (at + 52) b) else None
+
+-- the section of the descriptor at a place
+unfoldable pub section_at : List ℕ → ℕ → SectionAt
+section_at b at = record {
+  kind = bytes_at 16 (at + 16) b;
+  start = section_offset b at;
+  length = section_length b at;
+  severity = number_at 4 (at + 48) b;
+  fru = fru_at b at;
+}
+
+-- section i begins behind the descriptors and ends before the record does
+abbrev pub is_in_place : List ℕ → ℕ → Bool
+is_in_place b i =
+    nat_le (descriptors_end b) (section_offset b (descriptor_place i))
+    && nat_le (section_offset b (descriptor_place i) + section_length b (descriptor_place i)) (record_length b)
+
+-- the sections that were taken, and those of the descriptors from number i on, so many, all in place
+abbrev pub sections_from : List ℕ → List SectionAt → ℕ → ℕ → Result (ArrayVec SectionAt) CperRefused
+sections_from b taken i zero = Ok (record { items = taken })
+sections_from b taken i (suc left) =
+    if not (is_in_place b i) then Err (refused.SectionPlace i)
+    else sections_from b (taken ++ section_at b (descriptor_place i) ∷ []) (i + 1) left
+
+-- the record at the front
+unfoldable pub record_of : List ℕ → Result Cper CperRefused
+record_of b = do
+  header ← header_kept b
+  sections ← sections_from b [] 0 (section_count b)
+  Ok (record {
+    id = number_at 8 96 b;
+    severity = number_at 4 12 b;
+    at = number_at 8 108 b;
+    length = record_length b;
+    sections = sections;
+  })

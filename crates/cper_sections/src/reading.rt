@@ -1,0 +1,143 @@
+//! Records, read back.
+
+ghost use Rattle.std.specs.Prelude.{◌≡◌, ◌+◌, ◌*◌, ◌≤◌, ◌<◌, [], length, OnOk};
+ghost use Rattle.cper_sections.specs.Reading.{HasDescriptors, header_kept, is_in_place, record_of, section_at, section_count, sections_from};
+
+use arrayvec::ArrayVec;
+use byte_fields::{array_at, u8_at};
+use ras_bits::{SectionAt, get_field, u16_at, u32_at, u64_at};
+
+pub(crate) const HEADER_LENGTH: usize = 128;
+
+pub(crate) const DESCRIPTOR_LENGTH: usize = 72;
+
+const END_MARK: u32 = 0xFFFF_FFFF;
+
+/// What a record says.
+#[derive(Drop)]
+pub struct Cper {
+    /// The record id.
+    pub id: u64,
+    /// The severity of the record: 0 recoverable, 1 fatal, 2 corrected, 3 informational.
+    pub severity: u32,
+    /// The persistence information: in a record of this project the step of the kept event.
+    pub at: u64,
+    /// The length of the record in bytes.
+    pub length: u32,
+    /// The sections, in the order of their descriptors; their places count from the record's first byte.
+    pub sections: ArrayVec<SectionAt, 16>,
+}
+
+/// The first rule that a record breaks, in the order of the reader's tests.
+#[derive(Clone, Copy, Debug, PartialEq, Eq)]
+pub enum CperRefused {
+    /// There are fewer bytes than a header has.
+    Short,
+    /// The record doesn't begin with `CPER`.
+    Signature,
+    /// The mark behind the revision isn't 0xFFFFFFFF.
+    EndMark,
+    /// The record's length is below that of a header or passes the bytes.
+    Length,
+    /// There is no section or more than 16, or the descriptors pass the record's end.
+    Sections,
+    /// The section of this number, counted from 0, begins before the descriptors end, or passes the record's end.
+    SectionPlace(u32),
+}
+
+/// Reads the record at the front (UEFI Appendix N, "Common Platform Error Record"). Bytes behind it are passed over.
+#[tactic(auto, unfolding(crate::specs::Reading::record_of))]
+pub fn read_record(b: &[u8]) -> Result<Cper, CperRefused>
+    ensures { result ≡ record_of b.now }
+{
+    keep_header(b)?;
+    let sections = read_sections(b)?;
+    Ok(Cper {
+        id: u64_at(b, 96),
+        severity: u32_at(b, 12),
+        at: u64_at(b, 108),
+        length: u32_at(b, 20),
+        sections,
+    })
+}
+
+#[tactic(auto, unfolding(crate::specs::Reading::header_kept))]
+fn keep_header(b: &[u8]) -> Result<(), CperRefused>
+    ensures exact { result ≡ header_kept b.now }
+    ensures there { OnOk result (HasDescriptors b.now) }
+{
+    if b.len() < HEADER_LENGTH {
+        return Err(CperRefused::Short);
+    }
+    if u32_at(b, 0) != u32_at(b"CPER", 0) {
+        return Err(CperRefused::Signature);
+    }
+    if u32_at(b, 6) != END_MARK {
+        return Err(CperRefused::EndMark);
+    }
+    let end = u32_at(b, 20) as usize;
+    if end < HEADER_LENGTH || b.len() < end {
+        return Err(CperRefused::Length);
+    }
+    let count = u16_at(b, 10);
+    if count == 0 || count > 16 || end < descriptor_place(count) {
+        return Err(CperRefused::Sections);
+    }
+    Ok(())
+}
+
+// The place of descriptor `i`.
+fn descriptor_place(i: u16) -> usize
+    ensures { result ≡ 128 + 72 * i }
+{
+    HEADER_LENGTH + DESCRIPTOR_LENGTH * usize::from(i)
+}
+
+// The sections of all descriptors.
+fn read_sections(b: &[u8]) -> Result<ArrayVec<SectionAt, 16>, CperRefused>
+    requires { HasDescriptors b.now }
+    ensures { result ≡ sections_from b.now [] 0 (section_count b.now) }
+{
+    let mut sections = ArrayVec::new();
+    for i in 0..u16_at(b, 10) {
+        if !is_in_place(b, i) {
+            return Err(CperRefused::SectionPlace(u32::from(i)));
+        }
+        sections.push(section_at(b, descriptor_place(i)));
+    }
+    Ok(sections)
+}
+
+// Whether section `i` begins behind the descriptors and ends before the record does.
+fn is_in_place(b: &[u8], i: u16) -> bool
+    requires descriptors { HasDescriptors b.now }
+    requires section { i < section_count b.now }
+    ensures { result ≡ is_in_place b.now i }
+{
+    let at = descriptor_place(i);
+    let start = u32_at(b, at) as usize;
+    let section_end = start + u32_at(b, at + 4) as usize;
+    let first = descriptor_place(u16_at(b, 10));
+    let end = u32_at(b, 20) as usize;
+    first <= start && section_end <= end
+}
+
+// The section of the descriptor at a place.
+#[tactic(auto, unfolding(crate::specs::Reading::section_at))]
+fn section_at(b: &[u8], at: usize) -> SectionAt
+    requires { at + 72 ≤ length b.now }
+    ensures { result ≡ section_at b.now at }
+{
+    let has_fru = get_field(u64::from(u8_at(b, at + 10)), 1, 1) == 1;
+    SectionAt {
+        kind: array_at(b, at + 16),
+        start: u32_at(b, at),
+        length: u32_at(b, at + 4),
+        severity: u32_at(b, at + 48),
+        fru: if has_fru {
+            Some(array_at(b, at + 52))
+        } else {
+            None
+        },
+    }
+}
