@@ -1,0 +1,7 @@
+pub mod Registers
+pub mod Views
+pub mod Cells
+pub mod Emitting
+pub mod Sent
+pub mod Alone
+pub mod Counting

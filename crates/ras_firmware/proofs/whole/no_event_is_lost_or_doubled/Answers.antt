@@ -1,0 +1,15 @@
+use Rattle.reri_bank.specs.Bank.{first_control}
+use Rattle.ras_firmware.specs.Whole.{actions_of}
+use Rattle.ras_firmware.proofs.Emitting.{all_joined, all_some}
+use Rattle.ras_firmware.proofs.Alone.{each_emitted, all_kept_first, all_counted, all_add_up}
+use Rattle.ras_firmware.proofs.whole.no_event_is_lost_or_doubled.Goals as goal
+
+pub returns : goal.returns
+returns c = record {
+  emitted = each_emitted;
+  joined = λ place calls. all_joined first_control (actions_of place 0 calls);
+  some = λ place calls. all_some first_control (actions_of place 0 calls);
+  kept = all_kept_first;
+  counted = all_counted;
+  adds_up = all_add_up;
+}

@@ -1,0 +1,96 @@
+//! The records that the firmware has emitted.
+
+ghost use Rattle.std.specs.Prelude.{◌≡◌, ◌≤◌, ◌<◌, ℕ, length, IfOk, IfSome};
+ghost use Rattle.ras_firmware.specs.KeptState.{KeptState};
+ghost use Rattle.ras_firmware.specs.Kept.{IsListed, AllListed, IsKept, with_view, with_option, no_records};
+
+use poison_mem::RecordView;
+use ras_bits::NoMemory;
+use std::alloc::Global;
+use std::marker::Model;
+
+/// How many records are kept.
+const ROOM: usize = 4096;
+
+/// The first 4,096 views that were emitted, and the number of the others, which stays at 2^64 - 1.
+#[derive(Drop)]
+pub struct Records {
+    views: Vec<RecordView>,
+    dropped: u64,
+}
+
+impl Model for Records {
+    ghost use Rattle.std.specs.Prelude.{◌≡◌, ◌≤◌, ◌<◌, length, vec_capacity};
+    ghost use Rattle.ras_firmware.specs.KeptState.{KeptState};
+    ghost use Rattle.ras_firmware.specs.Kept.{AllListed};
+
+    ghost Value = { KeptState };
+
+    ghost view = { λ r. record { views = r.views.items; left_out = r.dropped } };
+
+    ghost invariant = { λ r. (4096 ≤ vec_capacity r.views) × ((length r.views.items ≤ 4096) × (AllListed r.views.items × (0 < r.dropped → length r.views.items ≡ 4096))) };
+}
+
+impl Records {
+    /// Room for 4,096 records; none is kept or dropped.
+    pub fn make(alloc: Global) -> Result<Records, NoMemory>
+        ensures { IfOk result (λ r. r ≡ no_records) }
+    {
+        let views = Vec::with_capacity(alloc, ROOM)?;
+        Ok(Records { views, dropped: 0 })
+    }
+
+    /// The views that are kept, in the order in which they were emitted.
+    pub fn list(&self) -> &[RecordView]
+        ensures views { result.now ≡ self.now.views }
+        ensures kept { IsKept self.now }
+    {
+        let _ = &self.dropped;
+        self.views.as_slice()
+    }
+
+    /// How many views were dropped, past 4,096.
+    pub fn dropped(&self) -> u64
+        ensures { result ≡ self.now.left_out }
+    {
+        self.dropped
+    }
+
+    /// Sets the kept views and the number dropped.
+    ///
+    /// There are at most 4,096 views, each is sound and names a record that exists, and where there are fewer none was
+    /// dropped.
+    pub fn reset_to(&mut self, v: &[RecordView], dropped: u64)
+        requires { IsKept (record { views = v.now; left_out = dropped }) }
+        ensures { self.new ≡ record { views = v.now; left_out = dropped } }
+    {
+        self.views.clear();
+        for view in v.iter() {
+            self.views.push_reserved(*view);
+        }
+        self.dropped = dropped;
+    }
+
+    /// Emits a view: it is kept while there is room, and else counted.
+    pub(crate) fn emit(&mut self, view: RecordView)
+        requires { IsListed view }
+        ensures { self.new ≡ with_view self.old view }
+    {
+        if self.views.len() < ROOM {
+            self.views.push_reserved(view);
+        } else {
+            self.dropped = self.dropped.saturating_add(1);
+        }
+    }
+
+    /// Emits a view, where there is one.
+    pub(crate) fn emit_some(&mut self, view: Option<RecordView>)
+        requires { IfSome view IsListed }
+        ensures { self.new ≡ with_option self.old view }
+    {
+        match view {
+            None => {}
+            Some(view) => self.emit(view),
+        }
+    }
+}
