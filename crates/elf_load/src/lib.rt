@@ -1,0 +1,16 @@
+//! Images: which files are refused and why, and what the others leave in RAM.
+//!
+//! An image is an ELF-64 executable for RISC-V, or raw bytes that are loaded where RAM starts.
+#![tactic(auto)]
+
+mod checks;
+mod headers;
+mod images;
+mod ram;
+mod refusals;
+
+pub use images::Image;
+pub use refusals::ElfRefused;
+
+#[cfg(test)]
+mod tests;
