@@ -1,0 +1,6 @@
+pub mod WordLemmas
+pub mod ReadingLemmas
+pub mod JoinLemmas
+pub mod RoundTrip
+pub mod SortLemmas
+pub mod PlaceLemmas

@@ -1,0 +1,148 @@
+-- What a text is as a script: its lines, or the first line that fails and why.
+use Rattle.std.specs.Prelude.{◌≡◌, ℕ, ◌+◌, ◌-◌, ◌*◌, ◌/◌, ◌%◌, Bool, true, false, not, ◌&&◌, ◌||◌, ◌==◌, nat_le, nat_lt, if◌then◌else◌, List, [], ◌∷◌, ◌++◌, length, get_or, Option, Some, None, Result, Ok, Err, codes, slice_index}
+use Rattle.std.specs.List.{list_all}
+use Rattle.std.specs.Str.{bytes_eq}
+use Rattle.ras_numbers.specs.Numbers.{number_of}
+use Rattle.fault_script.specs.Words.{lines_of, words_of, without_return}
+use Rattle.fault_script.specs.declared.lines.Act.{Act}
+use Rattle.fault_script.specs.declared.lines.Act.TheVariants as act
+use Rattle.fault_script.specs.declared.lines.Command.{Command}
+use Rattle.fault_script.specs.declared.lines.Command.TheVariants as command
+use Rattle.fault_script.specs.declared.lines.Why.{Why}
+use Rattle.fault_script.specs.declared.lines.Why.TheVariants as why
+use Rattle.fault_script.specs.declared.lines.ScriptLine.{ScriptLine}
+use Rattle.fault_script.specs.declared.lines.ScriptError.{ScriptError}
+use Rattle.fault_script.specs.declared.lines.ScriptError.TheVariants as errors
+
+-- the first refusal stands: f goes on only where there is none
+infixl 10 ◌>>=◌
+abbrev pub ◌>>=◌ : {A B E : Type 0} → Result A E → (A → Result B E) → Result B E
+(Ok x) >>= f = f x
+(Err e) >>= f = Err e
+
+-- Fields
+
+-- a field that is no number is refused as that
+abbrev pub number_or : Option ℕ → Result ℕ Why
+number_or None = Err why.Number
+number_or (Some n) = Ok n
+
+-- a number that is at most the limit
+unfoldable pub number_within : Why → ℕ → List ℕ → Result ℕ Why
+number_within refusal limit word = do
+  n ← number_or (number_of word)
+  if nat_le n limit then Ok n else Err refusal
+
+-- the address of a word in a RAM of so many words from 0x80000000 on
+abbrev pub is_place : ℕ → ℕ → Bool
+is_place ram_words n = n % 8 == 0 && (nat_le 0x80000000 n && nat_lt n (0x80000000 + 8 * ram_words))
+
+-- an address of a word in RAM
+unfoldable pub address_of : ℕ → List ℕ → Result ℕ Why
+address_of ram_words word = do
+  n ← number_or (number_of word)
+  if is_place ram_words n then Ok n else Err why.Address
+
+-- Lines
+
+-- the word with this number in a line, counted from 0
+abbrev pub field : List (List ℕ) → ℕ → List ℕ
+field words k = get_or words k []
+
+-- the command that a word names
+unfoldable pub command_of : List ℕ → Result Command Why
+command_of word =
+    if bytes_eq word (codes "flip") then Ok command.Flip
+    else if bytes_eq word (codes "scrub") then Ok command.Scrub
+    else Err why.Word
+
+-- how many words a line of the command has
+abbrev pub word_count : Command → ℕ
+word_count command.Flip = 4
+word_count command.Scrub = 3
+
+-- flip STEP ADDR BIT
+unfoldable pub flip_of : ℕ → List (List ℕ) → Result Act Why
+flip_of ram_words words = do
+  address ← address_of ram_words (field words 2)
+  bit ← number_within why.Bit 71 (field words 3)
+  Ok (act.Flip ((address - 0x80000000) / 8) bit)
+
+-- scrub STEP ADDR
+unfoldable pub scrub_of : ℕ → List (List ℕ) → Result Act Why
+scrub_of ram_words words = do
+  address ← address_of ram_words (field words 2)
+  Ok (act.Scrub ((address - 0x80000000) / 8))
+
+-- what the fields behind the step say
+abbrev pub act_of : ℕ → List (List ℕ) → Command → Result Act Why
+act_of ram_words words command.Flip = flip_of ram_words words
+act_of ram_words words command.Scrub = scrub_of ram_words words
+
+-- a line is refused unless the test holds
+abbrev pub guard : Bool → Why → Result ℕ Why
+guard true refusal = Ok 0
+guard false refusal = Err refusal
+
+-- a line that acts, after so many that did
+unfoldable pub acting_line : ℕ → ℕ → List (List ℕ) → Result ScriptLine Why
+acting_line ram_words acted words = do
+  command ← command_of (field words 0)
+  counted ← guard (length words == word_count command) why.Count
+  room ← guard (not (acted == 65536)) why.TooMany
+  step ← number_within why.Step 1000000000 (field words 1)
+  act ← act_of ram_words words command
+  Ok (record { step = step; act = act })
+
+-- printable ASCII, a space or a tab
+abbrev pub is_readable : ℕ → Bool
+is_readable b = (nat_le 32 b && nat_le b 126) || b == 9
+
+-- what was read is a line that acts
+abbrev pub as_some : {X : Type 0} → Result X Why → Result (Option X) Why
+as_some (Ok x) = Ok (Some x)
+as_some (Err refusal) = Err refusal
+
+-- no word, or a first one that begins a comment
+abbrev pub is_idle : List (List ℕ) → Bool
+is_idle words = length words == 0 || slice_index (field words 0) 0 == 35
+
+-- what a line does, if it acts, after so many that did
+unfoldable pub line_of : ℕ → ℕ → List ℕ → Result (Option ScriptLine) Why
+line_of ram_words acted line =
+    if not (list_all is_readable (without_return line)) then Err why.Bytes
+    else if is_idle (words_of (without_return line)) then Ok None
+    else as_some (acting_line ram_words acted (words_of (without_return line)))
+
+-- Texts
+
+-- a refusal with the number of its line
+abbrev pub at_line : {X : Type 0} → ℕ → Result X Why → Result X ScriptError
+at_line number (Ok x) = Ok x
+at_line number (Err refusal) = Err (errors.Refused number refusal)
+
+-- the lines taken so far, and one more if it acts
+abbrev pub with_line : List ScriptLine → Option ScriptLine → List ScriptLine
+with_line taken None = taken
+with_line taken (Some line) = taken ++ line ∷ []
+
+-- what the lines behind the first `number` give, where those gave `taken`
+abbrev pub read_on : ℕ → ℕ → List ScriptLine → List (List ℕ) → Result (List ScriptLine) ScriptError
+read_on ram_words number taken [] = Ok taken
+read_on ram_words number taken (line ∷ lines) =
+    at_line (number + 1) (line_of ram_words (length taken) line)
+    >>= λ read. read_on ram_words (number + 1) (with_line taken read) lines
+
+-- the lines of a text that act, in its order, or the first line that fails
+abbrev pub lines_in : ℕ → List ℕ → Result (List ScriptLine) ScriptError
+lines_in ram_words text = read_on ram_words 0 [] (lines_of text)
+
+abbrev pub map_ok : {X Y E : Type 0} → (X → Y) → Result X E → Result Y E
+map_ok f (Ok x) = Ok (f x)
+map_ok f (Err e) = Err e
+
+-- a function answered what reading gives, or want of memory
+abbrev pub GivesLines : Result (List ScriptLine) ScriptError → Result (List ScriptLine) ScriptError → Type 0
+GivesLines (Err errors.NoMemory) read = Unit {0}
+GivesLines (Err (errors.Refused line refusal)) read = read ≡ Err (errors.Refused line refusal)
+GivesLines (Ok lines) read = read ≡ Ok lines

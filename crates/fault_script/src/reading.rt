@@ -1,0 +1,140 @@
+//! A text, read line by line up to its first failing line.
+
+ghost use Rattle.std.specs.Prelude.{◌≡◌, ◌<◌, ◌^◌, ◌≢◌, length, IfOk, OnOk, IfSome, OnSome};
+ghost use Rattle.std.specs.List.{list_all};
+ghost use Rattle.fault_script.specs.Words.{words_of};
+ghost use Rattle.fault_script.specs.Fits.{FitsRamAct, FitsRam, AreReadable};
+ghost use Rattle.fault_script.specs.Script.{flip_of, scrub_of, act_of, word_count, acting_line, is_readable, line_of, lines_in, GivesLines, map_ok};
+
+use crate::fields::{RAM_START, address, command, number_within};
+use crate::lines::{Act, Command, ScriptError, ScriptLine, Why};
+use crate::words::{count_words, cut_line, trim_return, word_at};
+use std::alloc::Global;
+
+// How many lines of a script may act.
+const MOST_LINES: usize = 65536;
+
+// `flip STEP ADDR BIT`, from its third word on.
+#[tactic(auto, unfolding(crate::specs::Script::flip_of))]
+fn flip(line: &[u8], ram_words: u32) -> Result<Act, Why>
+    ensures exact { result ≡ flip_of ram_words (words_of line.now) }
+    ensures fits { IfOk result (FitsRamAct ram_words) }
+{
+    let address = address(word_at(line, 2), ram_words)?;
+    let bit = number_within(word_at(line, 3), 71, Why::Bit)?;
+    Ok(Act::Flip {
+        w: ((address - RAM_START) / 8) as u32,
+        bit: bit as u8,
+    })
+}
+
+// `scrub STEP ADDR`, from its third word on.
+#[tactic(auto, unfolding(crate::specs::Script::scrub_of))]
+fn scrub(line: &[u8], ram_words: u32) -> Result<Act, Why>
+    ensures exact { result ≡ scrub_of ram_words (words_of line.now) }
+    ensures fits { IfOk result (FitsRamAct ram_words) }
+{
+    let address = address(word_at(line, 2), ram_words)?;
+    Ok(Act::Scrub {
+        w: ((address - RAM_START) / 8) as u32,
+    })
+}
+
+fn act(line: &[u8], ram_words: u32, command: Command) -> Result<Act, Why>
+    ensures exact { result ≡ act_of ram_words (words_of line.now) command }
+    ensures fits { IfOk result (FitsRamAct ram_words) }
+{
+    match command {
+        Command::Flip => flip(line, ram_words),
+        Command::Scrub => scrub(line, ram_words),
+    }
+}
+
+fn word_count(command: Command) -> usize
+    ensures { result ≡ word_count command }
+{
+    match command {
+        Command::Flip => 4,
+        Command::Scrub => 3,
+    }
+}
+
+// A line that acts, after so many that did.
+#[tactic(auto, unfolding(crate::specs::Script::acting_line))]
+fn acting_line(line: &[u8], acted: usize, ram_words: u32) -> Result<ScriptLine, Why>
+    ensures exact { result ≡ acting_line ram_words acted (words_of line.now) }
+    ensures fits { IfOk result (FitsRam ram_words) }
+    ensures room { OnOk result (acted ≢ 65536) }
+{
+    let command = command(word_at(line, 0))?;
+    if count_words(line) != word_count(command) {
+        return Err(Why::Count);
+    }
+    if acted == MOST_LINES {
+        return Err(Why::TooMany);
+    }
+    let step = number_within(word_at(line, 1), 1_000_000_000, Why::Step)?;
+    let act = act(line, ram_words, command)?;
+    Ok(ScriptLine { step, act })
+}
+
+fn is_readable(line: &[u8]) -> bool
+    ensures { result ≡ list_all is_readable line.now }
+{
+    line.iter()
+        .all(|byte| (32 <= *byte && *byte <= 126) || *byte == b'\t')
+}
+
+// What a line does, if it acts, after so many that did.
+#[tactic(auto, unfolding(crate::specs::Script::line_of))]
+fn read_line(line: &[u8], acted: usize, ram_words: u32) -> Result<Option<ScriptLine>, Why>
+    ensures exact { result ≡ line_of ram_words acted line.now }
+    ensures fits { IfOk result (λ r. IfSome r (FitsRam ram_words)) }
+    ensures room { IfOk result (λ r. OnSome r (acted ≢ 65536)) }
+{
+    let line = trim_return(line);
+    if !is_readable(line) {
+        return Err(Why::Bytes);
+    }
+    if count_words(line) == 0 {
+        return Ok(None);
+    }
+    let word = word_at(line, 0);
+    if !word.is_empty() && word[0] == b'#' {
+        return Ok(None);
+    }
+    match acting_line(line, acted, ram_words) {
+        Ok(line) => Ok(Some(line)),
+        Err(why) => Err(why),
+    }
+}
+
+/// The lines of a text that act, in its order.
+#[tactic(auto, using(crate::proofs::ReadingLemmas::fits_more))]
+pub fn read_lines(
+    alloc: Global,
+    text: &[u8],
+    ram_words: u32,
+) -> Result<Vec<ScriptLine>, ScriptError>
+    requires { length text.now < 2 ^ 32 }
+    ensures exact { GivesLines (map_ok (λ v. v.items) result) (lines_in ram_words text.now) }
+    ensures fits { IfOk result (λ v. AreReadable ram_words v.items) }
+{
+    let mut lines = Vec::new(alloc);
+    let mut number = 0u32;
+    let mut rest = text;
+    while !rest.is_empty() {
+        let (line, behind) = cut_line(rest);
+        match read_line(line, lines.len(), ram_words) {
+            Ok(Some(line)) => lines.push(line)?,
+            Ok(None) => {}
+            Err(why) => return Err(ScriptError::Refused {
+                line: number + 1,
+                why,
+            }),
+        }
+        number += 1;
+        rest = behind;
+    }
+    Ok(lines)
+}
