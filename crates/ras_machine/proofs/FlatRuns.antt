@@ -1,0 +1,85 @@
+-- The flat machine's run by its states.
+use Rattle.std.proofs.Common.{ℕ, zero, suc, ◌+◌, ◌-◌, ◌≡◌, ◌≤◌, ◌<◌, Bool, true, false, List, [], ◌∷◌, Option, Some, None, length, refl, ap, ◌∙◌, subst, arith, add-one, inl, inr, slice_index, slice_set}
+use Rattle.std.specs.Prelude.{if◌then◌else◌}
+use Rattle.std.proofs.lemmas.Bool.{cases_lt}
+use Rattle.std.proofs.Math.ListN.{length-set}
+use Rattle.poison_mem.specs.Merge.{merged_value}
+use Rattle.rv64_hart.specs.Turn.{Outcome, End, Unbuilt, Store, turn, has_room}
+use Rattle.ras_machine.specs.declared.ending.Ending.{Ending}
+use Rattle.ras_machine.specs.declared.ending.Stop.TheVariants as stops
+use Rattle.ras_machine.specs.Runs.{ended_or}
+use Rattle.ras_machine.specs.Flat.{FlatState, FlatMove, FlatRun, answered, ram_after, flat_outcome, flat_step, flat_run, flat_after}
+use Rattle.ras_machine.specs.TwoRuns.{GoesOn}
+use Rattle.ras_machine.proofs.Steps.{run_step, run_over}
+
+-- stores keep the number of words
+ram_after-length : (stores : List Store) (ram : List ℕ) → length (ram_after ram stores) ≡ length ram
+ram_after-length [] ram = refl
+ram_after-length (s ∷ stores) ram =
+    ram_after-length stores (slice_set ram s.w (merged_value (slice_index ram s.w) s.value s.mask)) ∙ length-set ram s.w _
+
+outcome-length : (n : ℕ) (s : FlatState) (outcome : Outcome) → length (flat_outcome n s outcome).after.ram ≡ length s.ram
+unfolding flat_outcome
+outcome-length n s (End after stores bytes stop) = either (has_room s.console bytes) _ _ (ram_after-length stores s.ram) refl
+  where
+    either : (fits : Bool) (m m' : FlatMove) → length m.after.ram ≡ length s.ram → length m'.after.ram ≡ length s.ram → length (if fits then m else m').after.ram ≡ length s.ram
+    either true m m' fits_here full = fits_here
+    either false m m' fits_here full = full
+outcome-length n s Unbuilt = refl
+
+-- the RAM keeps its words
+pub after-length : (input : List ℕ) (start : FlatState) (n : ℕ) → length (flat_after input start n).ram ≡ length start.ram
+unfolding flat_after
+after-length input start zero = refl
+after-length input start (suc n) =
+    let f = flat_after input start n in
+    outcome-length n f (answered f.ram (turn (length f.ram) f.hart n input)) ∙ after-length input start n
+
+-- the next state
+pub after_next : (input : List ℕ) (start : FlatState) (n : ℕ) → flat_after input start (n + 1) ≡ (flat_step input n (flat_after input start n)).after
+unfolding flat_after
+after_next input start n = rw (add-one n) refl
+
+-- one step more that goes on
+pub goes_on_more : (input : List ℕ) (start : FlatState) (n : ℕ) → GoesOn input start n → (flat_step input n (flat_after input start n)).ending ≡ None → GoesOn input start (n + 1)
+goes_on_more input start n goes here m below = elim (cases_lt m n) [
+  | inl less ↦ goes m less
+  | inr more ↦ let e : n ≡ m = omega arith in subst (λ m. (flat_step input m (flat_after input start m)).ending ≡ None) e here
+]
+
+one_more : (input : List ℕ) (left n : ℕ) (e : Option Ending) (after : FlatState) → e ≡ None → ended_or e after (flat_run input left n after) ≡ flat_run input left n after
+one_more input left n None after is = refl
+one_more input left n (Some e) after is = cc
+
+-- the run from its first step is the run from step n, where none before ends it
+pub run_from : (input : List ℕ) (start : FlatState) (budget n : ℕ) → GoesOn input start n → n ≤ budget
+    → flat_run input budget 0 start ≡ flat_run input (budget - n) n (flat_after input start n)
+unfolding flat_after
+run_from input start budget zero goes low = let all : budget - 0 ≡ budget = omega arith in rw all refl
+run_from input start budget (suc n) goes low =
+    let f = flat_after input start n in
+    run_from input start budget n (λ m below. goes m (omega arith)) (omega arith)
+    ∙ run_step input (budget - n) (budget - suc n) n f (flat_step input n f) (omega arith) refl
+    ∙ one_more input (budget - suc n) (n + 1) (flat_step input n f).ending (flat_step input n f).after (goes n (omega arith))
+    ∙ ap (λ m. flat_run input (budget - suc n) m (flat_step input n f).after) (add-one n)
+
+some_ends : (input : List ℕ) (e : Option Ending) (ending : Ending) (after : FlatState) (more : FlatRun) → e ≡ Some ending → ended_or e after more ≡ record { after = after; ending = ending }
+some_ends input None ending after more is = cc
+some_ends input (Some found) ending after more is = ap (λ ending. record { after = after; ending = ending }) (same_some found ending is)
+  where
+    same_some : (a b : Ending) → Some a ≡ Some b → a ≡ b
+    same_some a b e = cc
+
+-- the run where step n ends it
+pub run_ends : (input : List ℕ) (start : FlatState) (budget n : ℕ) (ending : Ending) → GoesOn input start n → n < budget → (flat_step input n (flat_after input start n)).ending ≡ Some ending
+    → flat_run input budget 0 start ≡ record { after = (flat_step input n (flat_after input start n)).after; ending = ending }
+run_ends input start budget n ending goes low is =
+    let f = flat_after input start n in
+    run_from input start budget n goes (omega arith)
+    ∙ run_step input (budget - n) (budget - (n + 1)) n f (flat_step input n f) (omega arith) refl
+    ∙ some_ends input (flat_step input n f).ending ending (flat_step input n f).after _ is
+
+-- the run that its budget ends
+pub run_spent : (input : List ℕ) (start : FlatState) (budget : ℕ) → GoesOn input start budget
+    → flat_run input budget 0 start ≡ record { after = flat_after input start budget; ending = record { stop = stops.Budget; steps = budget } }
+run_spent input start budget goes = run_from input start budget budget goes (omega arith) ∙ run_over input (budget - budget) budget _ (omega arith)

@@ -1,0 +1,10 @@
+pub mod Images
+pub mod Steps
+pub mod Counting
+pub mod Acts
+pub mod Turns
+pub mod FlatRuns
+pub mod Both
+pub mod Places
+pub mod Runs
+pub mod Machines

@@ -1,0 +1,9 @@
+use Rattle.std.proofs.Common.{◌≡◌, ◌-◌}
+use Rattle.ras_machine.specs.Flat.{flat_run}
+use Rattle.ras_machine.proofs.flat.run.Given as goal
+
+-- the run of what is left is the whole run
+abbrev pub invariant-loop-n : goal.invariant-loop-n
+invariant-loop-n l =
+    flat_run l.input l.budget 0 (record { hart = l.fn.hart; ram = l.fn.memory; console = l.fn.console })
+    ≡ flat_run l.input (l.budget - l.n) l.n (record { hart = l.hart; ram = l.memory; console = l.console })

@@ -1,0 +1,87 @@
+-- The flat machine: its state, its steps, and its run.
+use Rattle.std.specs.Prelude.{ℕ, zero, suc, ◌+◌, List, [], ◌∷◌, ◌++◌, Option, Some, None, length, slice_index, slice_set, if◌then◌else◌}
+use Rattle.poison_mem.specs.Asking.{Asking, Answer, Ask}
+use Rattle.poison_mem.specs.Merge.{merged_value}
+use Rattle.rv64_hart.specs.State.{ArchitecturalState, reset}
+use Rattle.rv64_hart.specs.Turn.{Outcome, End, Unbuilt, Store, turn, has_room}
+use Rattle.ras_machine.specs.declared.ending.Stop.TheVariants as stops
+use Rattle.ras_machine.specs.declared.ending.Ending.{Ending}
+use Rattle.ras_machine.specs.declared.flat.TheConstants.{RAM_START, RAM_WORDS}
+use Rattle.ras_machine.specs.Image.{ram_of}
+use Rattle.ras_machine.specs.Ends.{guest_ends}
+use Rattle.ras_machine.specs.Runs.{Move, Run, ended_or}
+
+-- what the flat machine keeps between two steps
+pub record FlatState : Type 0 where
+  pub hart : ArchitecturalState
+  pub ram : List ℕ
+  pub console : List ℕ
+
+-- the state that an image starts in: hart 0 enters it at the start of RAM, and the console is empty
+abbrev pub flat_start : List ℕ → FlatState
+flat_start image = record { hart = reset 0 RAM_START; ram = ram_of RAM_WORDS image; console = [] }
+
+-- what a computation answers where the RAM answers its asks
+abbrev pub answered : {X : Type 0} → List ℕ → Asking X → X
+answered ram (Answer x) = x
+answered ram (Ask w use_kind go_on) = answered ram (go_on (slice_index ram w))
+
+-- the RAM after stores, in order
+abbrev pub ram_after : List ℕ → List Store → List ℕ
+ram_after ram [] = ram
+ram_after ram (s ∷ stores) = ram_after (slice_set ram s.w (merged_value (slice_index ram s.w) s.value s.mask)) stores
+
+abbrev pub FlatMove : Type 0
+FlatMove = Move FlatState
+
+-- What step n makes of an outcome: where the console has no room it stops and changes nothing; else the stores and
+-- the bytes are applied.
+unfoldable pub flat_outcome : ℕ → FlatState → Outcome → FlatMove
+flat_outcome n s (End after stores bytes stop) =
+    if has_room s.console bytes
+    then record { after = record { hart = after; ram = ram_after s.ram stores; console = s.console ++ bytes }; ending = guest_ends stop n }
+    else record { after = s; ending = Some (record { stop = stops.ConsoleFull; steps = n }) }
+flat_outcome n s Unbuilt = record { after = s; ending = Some (record { stop = stops.NotBuilt; steps = n }) }
+
+-- step n with this input: the RAM answers each ask of the turn
+abbrev pub flat_step : List ℕ → ℕ → FlatState → FlatMove
+flat_step input n s = flat_outcome n s (answered s.ram (turn (length s.ram) s.hart n input))
+
+abbrev pub FlatRun : Type 0
+FlatRun = Run FlatState
+
+-- The run from step n on, with so many steps left of the budget.
+unfoldable pub flat_run : List ℕ → ℕ → ℕ → FlatState → FlatRun
+flat_run input zero n s = record { after = s; ending = record { stop = stops.Budget; steps = n } }
+flat_run input (suc left) n s =
+    let move = flat_step input n s in
+    ended_or move.ending move.after (flat_run input left (n + 1) move.after)
+
+-- the state after n steps
+unfoldable pub flat_after : List ℕ → FlatState → ℕ → FlatState
+flat_after input start zero = start
+flat_after input start (suc n) = (flat_step input n (flat_after input start n)).after
+
+-- a flat machine: its state, its budget, and its ending once it has one
+pub record FlatMachine : Type 0 where
+  pub state : FlatState
+  pub budget : ℕ
+  pub ended : Option Ending
+
+-- the machine of an image that has not run
+abbrev pub flat_made : List ℕ → ℕ → FlatMachine
+flat_made image budget = record { state = flat_start image; budget = budget; ended = None }
+
+-- the whole run of a machine that has not run
+abbrev pub flat_whole : List ℕ → FlatMachine → FlatRun
+flat_whole input m = flat_run input m.budget 0 m.state
+
+-- what a run answers: the ending that the machine has, or the whole run's
+abbrev pub flat_ended : Option Ending → List ℕ → FlatMachine → Ending
+flat_ended (Some ending) input m = ending
+flat_ended None input m = (flat_whole input m).ending
+
+-- what a run leaves: a machine that has ended stays
+abbrev pub flat_left : Option Ending → List ℕ → FlatMachine → FlatMachine
+flat_left (Some ending) input m = m
+flat_left None input m = record m { state = (flat_whole input m).after; ended = Some (flat_whole input m).ending }

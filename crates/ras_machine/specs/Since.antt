@@ -1,0 +1,53 @@
+-- The flips of a word since it was last stored whole.
+use Rattle.std.specs.Prelude.{ℕ, zero, suc, ◌+◌, ◌≤◌, ◌==◌, ◌&&◌, Bool, false, nat_le, nat_lt, List, [], Option, Some, None, length, count_by, if◌then◌else◌}
+use Rattle.std.specs.List.{list_any}
+use Rattle.fault_script.specs.declared.lines.Act.{Act}
+use Rattle.fault_script.specs.declared.lines.Act.TheVariants.{Flip, Scrub}
+use Rattle.fault_script.specs.declared.lines.ScriptLine.{ScriptLine}
+use Rattle.rv64_hart.specs.Turn.{Outcome, End, Unbuilt, Store, turn, has_room}
+use Rattle.ras_machine.specs.Flat.{FlatState, answered, flat_after}
+
+-- the stores that a step of the flat machine makes: none where the console has no room
+abbrev pub stores_of : List ℕ → Outcome → List Store
+stores_of console (End after stores bytes stop) = if has_room console bytes then stores else []
+stores_of console Unbuilt = []
+
+-- the stores of step n from this state of the flat machine
+abbrev pub stores_in : List ℕ → ℕ → FlatState → List Store
+stores_in input n s = stores_of s.console (answered s.ram (turn (length s.ram) s.hart n input))
+
+-- one of the stores is of all eight bytes of word w
+abbrev pub stores_whole : ℕ → List Store → Bool
+stores_whole w stores = list_any (λ store. (store.w == w) && (store.mask == 255)) stores
+
+-- the last step below n in which the flat machine stores word w whole
+unfoldable pub last_whole_store : List ℕ → FlatState → ℕ → ℕ → Option ℕ
+last_whole_store input start w zero = None
+last_whole_store input start w (suc n) =
+    if stores_whole w (stores_in input n (flat_after input start n)) then Some n else last_whole_store input start w n
+
+-- the first step whose flips are counted: the one after that, or step 0
+abbrev pub step_after : Option ℕ → ℕ
+step_after None = 0
+step_after (Some n) = n + 1
+
+-- an act flips a bit of word w
+abbrev pub is_flip_of : ℕ → Act → Bool
+is_flip_of w (Flip u bit) = u == w
+is_flip_of w (Scrub u) = false
+
+-- how many lines flip word w in a step from `from` on and below `to`
+abbrev pub flips_between : List ScriptLine → ℕ → ℕ → ℕ → ℕ
+flips_between script w from to = count_by (λ line. is_flip_of w line.act && (nat_le from line.step && nat_lt line.step to)) script
+
+-- the flips of word w since its last whole store, before those of step n
+abbrev pub since_before : List ℕ → FlatState → List ScriptLine → ℕ → ℕ → ℕ
+since_before input start script n w = flips_between script w (step_after (last_whole_store input start w n)) n
+
+-- the flips of word w since its last whole store, those of step n included
+abbrev pub since : List ℕ → FlatState → List ScriptLine → ℕ → ℕ → ℕ
+since input start script n w = flips_between script w (step_after (last_whole_store input start w n)) (n + 1)
+
+-- no two lines flip the same word
+pub record FlipsEachOnce (script : List ScriptLine) : Type 0 where
+  pub each : (w : ℕ) → count_by (λ line. is_flip_of w line.act) script ≤ 1
