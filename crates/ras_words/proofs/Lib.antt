@@ -1,0 +1,17 @@
+pub mod AppLemmas
+pub mod Small
+pub mod Machine
+pub mod MachineReads
+pub mod Forms
+pub mod Spelled
+pub mod Flags
+pub mod Rows
+pub mod Turns
+pub mod Stands
+pub mod Moves
+pub mod Doomed
+pub mod Refusals
+pub mod RunCommand
+pub mod RunEnd
+pub mod RunReading
+pub mod Getters

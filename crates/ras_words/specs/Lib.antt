@@ -1,0 +1,5 @@
+pub mod Reading
+pub mod Limits
+pub mod Run
+pub mod Texts
+pub mod RunApp

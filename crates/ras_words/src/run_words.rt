@@ -1,0 +1,87 @@
+//! The words of a command line, of which the first is the command.
+
+ghost use Rattle.std.specs.Prelude.{◌≡◌, IfOk, IfSome, None, Some, Err, option_map};
+ghost use Rattle.ras_words.specs.Run.{run_given, run_of, run_after};
+ghost use Rattle.ras_words.specs.Texts.{texts_of, run_in, IsGiven, IsInLimits};
+
+use crate::limits::{BUDGET, RAM_MIB, number_within};
+use crate::run_texts::{RunTexts, read_texts};
+use std::alloc::Global;
+
+/// What the command `run` asks for.
+#[derive(Clone, Copy, Debug, PartialEq)]
+pub struct RunWords<'a> {
+    /// The name of the image's file.
+    pub image: &'a str,
+    /// Whether the image is raw bytes and no ELF file: `--raw`.
+    pub raw: bool,
+    /// The name of the script's file: `--script`.
+    pub script: Option<&'a str>,
+    /// The most steps, at most 1,000,000,000: `--budget`, or 10,000,000.
+    pub budget: u64,
+    /// The size of RAM in units of 2^20 bytes, 1 to 64: `--ram-mib`, or 16.
+    pub ram_mib: u64,
+}
+
+/// Why words gave no command.
+#[derive(Clone, Copy, Debug, PartialEq, Eq)]
+pub enum WordsError {
+    /// The words are not of the form of a command.
+    Refused,
+    /// Want of memory.
+    NoMemory,
+}
+
+// The run that the texts ask for, if each number is one within its limits.
+fn checked<'a>(texts: &RunTexts<'a>) -> Option<RunWords<'a>>
+    ensures run { (given : _) → IsGiven given texts.now → option_map run_in result ≡ run_given given }
+    ensures limits { IfSome result IsInLimits }
+{
+    let budget = number_within(BUDGET, texts.budget)?;
+    let ram_mib = number_within(RAM_MIB, texts.ram_mib)?;
+    Some(RunWords {
+        image: texts.image,
+        raw: texts.raw,
+        script: texts.script,
+        budget,
+        ram_mib,
+    })
+}
+
+// The run that the words after `run` ask for.
+fn read_run<'a>(alloc: Global, words: &'a [String]) -> Result<RunWords<'a>, WordsError>
+    ensures taken { IfOk result (λ run. run_after (texts_of words.entry.now) ≡ Some (run_in run)) }
+    ensures limits { IfOk result IsInLimits }
+    ensures refused { result ≡ Err WordsError.Refused → run_after (texts_of words.entry.now) ≡ None }
+{
+    match read_texts(alloc, words) {
+        Ok(texts) => checked(&texts).ok_or(WordsError::Refused),
+        Err(error) => Err(error),
+    }
+}
+
+/// Reads the words of a command line, without the program's own name: the first is the command,
+/// which is `run`.
+///
+/// A word that begins with `--` names an option by its whole name: `--raw`, `--script FILE`,
+/// `--budget N` or `--ram-mib N`. The value follows the first `=` in the word, or is the next word,
+/// which must not begin with `-` unless it is `-` alone. After the word `--` each word is plain.
+/// Options and plain words come in any order. A number is decimal digits, or `0x` and hexadecimal
+/// digits, within the limits of its option.
+///
+/// Refused: no command or another one; an unknown option; another word that begins with `-` and is
+/// longer; an option given twice; a missing or an empty value; a value for `--raw`; a missing,
+/// surplus or empty image; a number that is none or out of its range.
+pub fn read_words<'a>(alloc: Global, words: &'a [String]) -> Result<RunWords<'a>, WordsError>
+    ensures taken { IfOk result (λ run. run_of (texts_of words.entry.now) ≡ Some (run_in run)) }
+    ensures limits { IfOk result IsInLimits }
+    ensures refused { result ≡ Err WordsError.Refused → run_of (texts_of words.entry.now) ≡ None }
+{
+    let Some((command, rest)) = words.split_first() else {
+        return Err(WordsError::Refused);
+    };
+    if command.as_str() != "run" {
+        return Err(WordsError::Refused);
+    }
+    read_run(alloc, rest)
+}
