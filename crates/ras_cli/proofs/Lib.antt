@@ -1,0 +1,4 @@
+pub mod FollowsLemmas
+pub mod WordsLemmas
+pub mod RunsLemmas
+pub mod HeadlineLemmas

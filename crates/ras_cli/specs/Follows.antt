@@ -1,0 +1,45 @@
+-- How a call of the program keeps to its plan.
+use Rattle.std.specs.Prelude.{◌≡◌, ◌≢◌, ℕ, List, [], ◌∷◌, ◌++◌, take, ◌⊎◌}
+use Rattle.ras_host.specs.Told.{Outside, Performs, Action, Read, Create, MissCreate, Out, Err}
+use Rattle.ras_cli.specs.Plan.{Planned}
+
+-- the action failed: it did a part of what it was to do
+abbrev pub IsFailed : Action → List Action → Type 0
+IsFailed (Read name limit) done = done ≡ Read name limit ∷ []
+IsFailed (Create name bytes) done = (done ≡ MissCreate name ∷ []) ⊎ ((n : ℕ) × (done ≡ Create name (take n bytes) ∷ []))
+IsFailed (MissCreate name) done = done ≡ MissCreate name ∷ []
+IsFailed (Out bytes) done = (n : ℕ) × (done ≡ Out (take n bytes) ∷ [])
+IsFailed (Err bytes) done = (n : ℕ) × (done ≡ Err (take n bytes) ∷ [])
+
+-- the actions were done up to one, and that failed
+abbrev pub IsCut : List Action → List Action → Type 0
+IsCut [] done = ⊥
+IsCut (action ∷ actions) done = IsFailed action done ⊎ ((rest : List Action) × (done ≡ action ∷ rest) × IsCut actions rest)
+
+-- the action reads a file
+abbrev pub IsRead : Action → Type 0
+IsRead (Read name limit) = Unit {0}
+IsRead _ = ⊥
+
+-- all of the actions do
+abbrev pub AreReads : List Action → Type 0
+AreReads [] = Unit {0}
+AreReads (action ∷ actions) = IsRead action × AreReads actions
+
+-- the first of the actions and nothing else were done, all of them reads
+pub record IsStopped (actions done : List Action) : Type 0 where
+  pub rest : List Action
+  pub front : actions ≡ done ++ rest
+  pub reads : AreReads done
+
+-- What was done, by the status. With any but 3 and 4 it is the plan's, and the whole plan was done; with 3 the plan was
+-- done up to a call that failed; with 4, want of memory, its first reads were made, or nothing, and nothing was written.
+pub record Follows (before after : Outside) (plan : Planned) (code : ℕ) : Type 0 where
+  pub status : code ≢ 3 → code ≢ 4 → code ≡ plan.code
+  pub whole : code ≢ 3 → code ≢ 4 → Performs before after plan.actions
+  pub cut : code ≡ 3 → (done : List Action) × IsCut plan.actions done × Performs before after done
+  pub stopped : code ≡ 4 → (after ≡ before) ⊎ ((done : List Action) × IsStopped plan.actions done × Performs before after done)
+
+-- nothing but reads was done
+abbrev pub OnlyReads : Outside → Outside → Type 0
+OnlyReads before after = (after ≡ before) ⊎ ((done : List Action) × AreReads done × Performs before after done)
