@@ -108,7 +108,8 @@ more k e es some none =
     (λ q. grind arith)))
     (λ p. rw p (grind arith))
 
-same_view : (k : Event) (a a' b b' c c' m m' o o' : Bool) (n n' : ℕ) → a ≡ a' → b ≡ b' → c ≡ c' → m ≡ m' → n ≡ n' → o ≡ o'
+-- a view is its fields
+pub same_view : (k : Event) (a a' b b' c c' m m' o o' : Bool) (n n' : ℕ) → a ≡ a' → b ≡ b' → c ≡ c' → m ≡ m' → n ≡ n' → o ≡ o'
     → (let left : RecordView = record { kept = k; ce = a; ued = b; uec = c; mo = m; cec = n; ceco = o } in left)
     ≡ record { kept = k; ce = a'; ued = b'; uec = c'; mo = m'; cec = n'; ceco = o' }
 same_view k a a' b b' c c' m m' o o' n n' p q r s t u = cc

@@ -9,7 +9,7 @@ use Rattle.reri_bank.specs.declared.state.RecState.{RecState}
 use Rattle.reri_bank.specs.Record.{severity, ranks_above, kept_with, kept_of, of_class, view_of_events, rec_of, with_event}
 use Rattle.reri_bank.specs.Views.{greatest_flag, IsReachable, IsOf, AllFit}
 use Rattle.reri_bank.specs.State.{IsHeld, state_logged, RecordLists, shown}
-use Rattle.reri_bank.proofs.Fold.{kept_occurs, none_above}
+use Rattle.reri_bank.proofs.Fold.{kept_occurs, none_above, same_view}
 
 kept_low : (x : Event) (k : Option Event) → x.pri < 4 → ((k' : Event) → k ≡ Some k' → k'.pri < 4) → (kept_with x k).pri < 4
 kept_low x None low h = low
@@ -257,11 +257,6 @@ made_kept k m d n h = kept_first k _
 
 made_fit : (k : Event) (m d n : ℕ) → k.pri < 4 → AllFit (made k m d n)
 made_fit k m d n low = (low, fit_repeated k m _ low (fit_repeated (filler Deferred) d _ (omega arith) (fit_repeated (filler Corrected) n [] (omega arith) tt)))
-
-same_view : (k : Event) (a a' b b' c c' m m' o o' : Bool) (n n' : ℕ) → a ≡ a' → b ≡ b' → c ≡ c' → m ≡ m' → n ≡ n' → o ≡ o'
-    → (let left : RecordView = record { kept = k; ce = a; ued = b; uec = c; mo = m; cec = n; ceco = o } in left)
-    ≡ record { kept = k; ce = a'; ued = b'; uec = c'; mo = m'; cec = n'; ceco = o' }
-same_view k a a' b b' c c' m m' o o' n n' p q r s t u = cc
 
 -- the counts that these events have, as a view shows them
 record Counts (v : RecordView) (es : List Event) : Type 0 where
