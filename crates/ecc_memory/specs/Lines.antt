@@ -4,10 +4,11 @@ use Rattle.poison_mem.specs.declared.cell.Cell.{Cell}
 use Rattle.poison_mem.specs.declared.cell.CellState.{CellState}
 use Rattle.poison_mem.specs.declared.line.Line.{Line}
 use Rattle.poison_mem.specs.declared.event.Event.{Event}
+use Rattle.poison_mem.specs.Bus.{Storing}
 use Rattle.poison_mem.specs.Line.{cell, line_by}
 use Rattle.poison_mem.specs.Level.{Level, CellCalls}
-use Rattle.ecc_memory.specs.Word.{word_read, word_put}
-use Rattle.ecc_memory.specs.Memory.{word_at, memory_flips}
+use Rattle.ecc_memory.specs.Word.{made, word_read, word_put, word_struck, word_scrubbed, is_third_of}
+use Rattle.ecc_memory.specs.Memory.{word_at}
 
 -- what a read of word w shows
 abbrev pub shown_at : List CellState → ℕ → Cell
@@ -41,12 +42,16 @@ memory_level = record {
   peek = shown_line;
 }
 
--- and its words take flips
+-- the memory after word w was scrubbed
+abbrev pub scrubbed_at : List CellState → ℕ → Storing CellState → Storing (List CellState)
+scrubbed_at cells w step = record { after = slice_set cells w step.after; events = step.events }
+
+-- and its words take flips: each call does to its word what the rules of a word say, and leaves all others
 abbrev pub memory_calls : CellCalls (List CellState)
 memory_calls = record {
-  load = memory_flips.load;
-  strike = memory_flips.strike;
-  is_third = memory_flips.is_third;
-  scrub = memory_flips.scrub;
-  cell = memory_flips.cell;
+  load = λ cells w v. slice_set cells w (made v);
+  strike = λ cells w bit. slice_set cells w (word_struck bit (word_at cells w));
+  is_third = λ cells w. is_third_of (word_at cells w);
+  scrub = λ cells w. scrubbed_at cells w (word_scrubbed w (word_at cells w));
+  cell = word_at;
 }

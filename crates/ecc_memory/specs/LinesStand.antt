@@ -1,7 +1,8 @@
 -- When a line of the memory stands for words, and that each call keeps it so.
-use Rattle.std.proofs.Common.{ℕ, zero, suc, ◌^◌, ◌+◌, ◌*◌, ◌%◌, ◌≡◌, ◌≢◌, ◌<◌, ◌≤◌, ◌∙◌, ◌⊎◌, inl, inr, sym, ap, refl, subst, List, length, replicate, false, arith, slice_index_or, slice_set}
+use Rattle.std.proofs.Common.{ℕ, zero, suc, ◌^◌, ◌+◌, ◌*◌, ◌%◌, ◌≡◌, ◌≢◌, ◌<◌, ◌≤◌, ◌∙◌, ◌⊎◌, inl, inr, sym, ap, refl, subst, List, length, false, arith, slice_set, map, slice_index}
 use Rattle.std.proofs.lemmas.Bool.{cases_eq}
 use Rattle.std.proofs.lemmas.List.{get_or-set_other, get_or-set_same, length-set}
+use Rattle.std.proofs.Math.ListN.{get_or-map}
 use Rattle.poison_mem.specs.declared.cell.CellState.{CellState}
 use Rattle.poison_mem.specs.declared.line.Line.{Line}
 use Rattle.poison_mem.specs.Flips.{Shows, raised_at}
@@ -145,22 +146,9 @@ memory_cells_keep_lines = record {
       (it i below);
 }
 
--- a loaded word stands for its value, whatever flips are told of it, and every other word for what it did
-pub load_keeps_lines : (cells : List CellState) (w v k : ℕ) (f g q : ℕ → ℕ) → w < length cells → v < 2 ^ 64 → g w ≡ v → ((n : ℕ) → n ≢ w → g n ≡ f n)
-    → LineStands cells k f q → LineStands (memory_calls.load cells w v) k g q
-load_keeps_lines cells w v k f g q inside small here elsewhere it i below = by_word (8 * k + i) (it i below) (cases_eq (8 * k + i) w)
-  where
-    by_word : (n : ℕ) → Stands (f n) (q n) (word_at cells n) → (n ≡ w) ⊎ (n ≢ w) → Stands (g n) (q n) (word_at (slice_set cells w (made v)) n)
-    by_word n it (inl same) =
-        subst (λ n. Stands (g n) (q n) (word_at (slice_set cells w (made v)) n)) (sym same)
-        (rw (get_or-set_same cells w (made v) (made 0) inside, here) (made-stands v (q w) small))
-    by_word n it (inr other) = rw (get_or-set_other cells w n (made v) (made 0) other, elsewhere n other) it
-
-same_all : {X : Type 0} (n k : ℕ) (x : X) → slice_index_or (replicate n x) k x ≡ x
-same_all zero k x = refl
-same_all (suc n) zero x = refl
-same_all (suc n) (suc k) x = same_all n k x
-
--- each line of a new memory stands for zeros
-pub zero_lines_stand : (n l : ℕ) (q : ℕ → ℕ) → LineStands (replicate n (made 0)) l (λ _. 0) q
-zero_lines_stand n l q i below = subst (λ s. Stands 0 (q (8 * l + i)) s) (sym (same_all n (8 * l + i) (made 0))) (made-stands 0 (q (8 * l + i)) (omega arith))
+-- each line of a memory of codewords stands for their values, whatever flips are told of it
+pub made_lines_stand : (words : List ℕ) (l : ℕ) (q : ℕ → ℕ) → ((w : ℕ) → w < length words → slice_index words w < 2 ^ 64) → 8 * l + 7 < length words
+    → LineStands (map made words) l (slice_index words) q
+made_lines_stand words l q small in_range i below =
+    subst (λ s. Stands (slice_index words (8 * l + i)) (q (8 * l + i)) s) (sym (get_or-map made words (8 * l + i) 0))
+    (made-stands (slice_index words (8 * l + i)) (q (8 * l + i)) (small (8 * l + i) (omega arith)))

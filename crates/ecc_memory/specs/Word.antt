@@ -6,7 +6,6 @@ use Rattle.poison_mem.specs.declared.cell.CellState.{CellState}
 use Rattle.poison_mem.specs.declared.event.Event.{Event}
 use Rattle.poison_mem.specs.declared.event.Class.TheVariants.{Corrected, Deferred}
 use Rattle.poison_mem.specs.Bus.{Reading, Storing}
-use Rattle.poison_mem.specs.Merge.{merged_cell}
 use Rattle.hsiao_code.specs.Code.{word_of, check_bits, fix, flip}
 use Rattle.hsiao_code.specs.declared.codeword.Decoded.{Decoded}
 use Rattle.hsiao_code.specs.declared.codeword.Decoded.TheVariants.{Clean, Fixed, Bad}
@@ -47,12 +46,6 @@ word_read scrub w s = read_as s.mark (fix (bits_of s)) scrub w s
 abbrev pub word_put : Cell → CellState → CellState
 word_put (Good v) s = made v
 word_put Poison s = record s { mark = true; count = 0 }
-
--- a store of the bytes of a mask into word w: a read, a merge, a put
-abbrev pub word_stored : ℕ → ℕ → ℕ → CellState → Storing CellState
-word_stored w v mask s =
-    let got = word_read false w s in
-    record { after = word_put (merged_cell got.cell v mask) got.after; events = got.events }
 
 -- a word after a flip of a bit: it is counted where the word isn't marked, up to 3
 unfoldable pub word_struck : ℕ → CellState → CellState

@@ -1,18 +1,16 @@
 -- When a word of the memory stands for a value.
 use Rattle.std.proofs.Common.{ℕ, ◌^◌, ◌+◌, ◌/◌, ◌%◌, ◌≡◌, ◌≤◌, ◌<◌, sym, refl, subst, Bool, true, false, not, ◌&&◌, eqb, arith}
-use Rattle.std.specs.Prelude.{◌==◌, min, if◌then◌else◌}
+use Rattle.std.specs.Prelude.{min, if◌then◌else◌}
 use Rattle.std.proofs.lemmas.Bool.Decides.{nat_tests}
 use Rattle.poison_mem.specs.declared.cell.Cell.{Cell}
 use Rattle.poison_mem.specs.declared.cell.Cell.TheVariants.{Good, Poison}
 use Rattle.poison_mem.specs.declared.cell.CellState.{CellState}
 use Rattle.poison_mem.specs.Flips.{Shows}
-use Rattle.poison_mem.specs.Merge.{merged_value, merged_cell}
-use Rattle.poison_mem.specs.Showing.{merged-shows}
 use Rattle.hsiao_code.specs.Code.{word_of, fix, flip}
 use Rattle.hsiao_code.specs.declared.codeword.Decoded.{Decoded}
 use Rattle.hsiao_code.specs.declared.codeword.Decoded.TheVariants.{Clean, Fixed, Bad}
 use Rattle.hsiao_code.specs.Near.{IsNear, Reads, ReadsOrBad, near_made, near_more, near_flip, near_one, near_two}
-use Rattle.ecc_memory.specs.Word.{bits_of, made, read_as, word_read, word_put, word_stored, word_struck, is_third_of, put_again, word_scrubbed}
+use Rattle.ecc_memory.specs.Word.{bits_of, made, read_as, word_read, word_put, word_struck, is_third_of, put_again, word_scrubbed}
 
 -- a marked word took at least two flips; another differs from the value's codeword in no more bits than it counts, at most two
 abbrev pub StandsAs : Bool → ℕ → ℕ → CellState → Type 0
@@ -77,12 +75,6 @@ made-stands v flips small = (omega arith, omega arith, small, near_made v)
 pub put-stands : (value flips : ℕ) (s : CellState) (c : Cell) → Shows value flips c → Stands value flips (word_put c s)
 put-stands value flips s (Good v) shows = subst (λ n. Stands n flips (made v)) shows.0 (made-stands v flips shows.1)
 put-stands value flips s Poison shows = shows
-
--- a store keeps it for the stored value, and with no flips where it is whole
-pub store-stands : (w v mask value flips : ℕ) (s : CellState) → Stands value flips s → Stands (merged_value value v mask) (if mask == 255 then 0 else flips) (word_stored w v mask s).after
-store-stands w v mask value flips s it =
-    put-stands (merged_value value v mask) (if mask == 255 then 0 else flips) (word_read false w s).after (merged_cell (word_read false w s).cell v mask)
-    (merged-shows value flips v mask (word_read false w s).cell (read-shows false w value flips s it))
 
 -- the parts of 72 bits make them up
 parts : (x : ℕ) → word_of (x % 2 ^ 64) (x / 2 ^ 64) ≡ x

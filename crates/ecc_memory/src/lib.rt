@@ -10,7 +10,7 @@ pub use memory::EccMemory;
 #[cfg(test)]
 mod tests {
     use super::*;
-    use poison_mem::{Bus, Cell, Class, FlipBus, NoLog, ShortLog};
+    use poison_mem::{Cell, Class, FlipMem, LineMem, NoLog, ShortLog};
     use std::test::Fail;
 
     #[test]
@@ -20,9 +20,10 @@ mod tests {
         memory.load(8, 0x48);
         assert_eq!(rt; memory.words(), 16);
         assert!(rt; !memory.strike(8, 3));
-        assert_eq!(rt; memory.view(8), Cell::Good(0x48));
-        assert_eq!(rt; memory.read(8, &mut log), Cell::Good(0x48));
-        assert_eq!(rt; memory.read(9, &mut log), Cell::Good(0));
+        assert_eq!(rt; memory.peek(1).cell(0), Cell::Good(0x48));
+        let line = memory.read_line(1, &mut log);
+        assert_eq!(rt; line.cell(0), Cell::Good(0x48));
+        assert_eq!(rt; line.cell(1), Cell::Good(0));
         assert_eq!(rt; log.events().len(), 1);
         let event = log.events()[0];
         assert_eq!(rt;
@@ -36,17 +37,19 @@ mod tests {
     }
 
     #[test]
-    fn two_flips_are_poison_until_a_whole_store(rt: HostRuntime) -> Result<(), Fail> {
+    fn two_flips_are_poison_until_a_good_word_is_put(rt: HostRuntime) -> Result<(), Fail> {
         let mut memory = EccMemory::make(rt.alloc(), 8)?;
         let mut log = ShortLog::new();
         assert!(rt; !memory.strike(1, 3));
         assert!(rt; !memory.strike(1, 71));
-        assert_eq!(rt; memory.read(1, &mut log), Cell::Poison);
-        memory.store(1, 0x48, 0x01, &mut log);
-        assert_eq!(rt; memory.read(1, &mut log), Cell::Poison);
+        let mut line = memory.read_line(0, &mut log);
+        assert_eq!(rt; line.cell(1), Cell::Poison);
+        memory.put_line(0, &line, &mut log);
         assert!(rt; memory.cell_state(1).mark);
-        memory.store(1, 0x48, 0xFF, &mut log);
-        assert_eq!(rt; memory.read(1, &mut log), Cell::Good(0x48));
+        assert_eq!(rt; memory.cell_state(1).count, 0);
+        line.set(1, Cell::Good(0x48));
+        memory.put_line(0, &line, &mut log);
+        assert_eq!(rt; memory.read_line(0, &mut log), line);
         assert_eq!(rt; log.events().len(), 1);
         assert_eq!(rt; log.events()[0].class, Class::Deferred);
         Ok(())
@@ -58,7 +61,10 @@ mod tests {
         memory.load(0, 0x0480_0513);
         assert!(rt; !memory.strike(0, 3));
         assert!(rt; !memory.strike(0, 3));
-        assert_eq!(rt; memory.read(0, &mut NoLog), Cell::Good(0x0480_0513));
+        assert_eq!(rt;
+            memory.read_line(0, &mut NoLog).cell(0),
+            Cell::Good(0x0480_0513)
+        );
         assert_eq!(rt; memory.cell_state(0).count, 2);
         assert!(rt; memory.strike(0, 4));
         assert!(rt; !memory.strike(0, 5));

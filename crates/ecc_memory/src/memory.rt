@@ -4,8 +4,8 @@ ghost use Rattle.std.specs.Prelude.{◌≡◌, ◌%◌, ◌≤◌, replicate, If
 ghost use Rattle.ecc_memory.specs.Word.{made};
 
 use crate::lines::{put_words, read_words, shown_words};
-use crate::word::{log_event, make, put, read, strike};
-use poison_mem::{Bus, Cell, CellState, EventLog, FlipBus, FlipMem, Line, LineMem, merge};
+use crate::word::{log_event, make, read, strike};
+use poison_mem::{Cell, CellState, EventLog, FlipMem, Line, LineMem};
 use ras_bits::NoMemory;
 use std::alloc::Global;
 use std::marker::Model;
@@ -13,7 +13,7 @@ use std::marker::Model;
 /// A memory of codewords.
 ///
 /// A read of a codeword gives its value, a read of one that is a flip away from it the corrected value and an event,
-/// and a read of any other marks the word as poison, with an event. A store makes a good word anew.
+/// and a read of any other marks the word as poison, with an event. A put makes a good word anew.
 #[derive(Drop)]
 pub struct EccMemory {
     cells: Vec<CellState>,
@@ -43,75 +43,6 @@ impl EccMemory {
     {
         let cells = vec![in alloc; make(0); words as usize]?;
         Ok(EccMemory { cells })
-    }
-}
-
-impl Bus for EccMemory {
-    ghost use Rattle.ecc_memory.specs.Memory.{memory_meaning};
-    ghost use Rattle.ecc_memory.specs.MemoryStands.{memory_keeps_words};
-
-    ghost meaning = { memory_meaning };
-
-    ghost keeps_words = { memory_keeps_words };
-
-    fn words(&self) -> u32 {
-        self.cells.len() as u32
-    }
-
-    #[tactic(auto, using(crate::proofs::Counts::counts_set))]
-    fn read<G: EventLog>(&mut self, w: u32, g: &mut G) -> Cell {
-        let seen = read(false, w, self.cells[w as usize]);
-        self.cells[w as usize] = seen.after;
-        log_event(seen.event, g);
-        seen.cell
-    }
-
-    fn store<G: EventLog>(&mut self, w: u32, v: u64, mask: u8, g: &mut G) {
-        let seen = read(false, w, self.cells[w as usize]);
-        self.cells[w as usize] = put(merge(seen.cell, v, mask), seen.after);
-        log_event(seen.event, g);
-    }
-}
-
-impl FlipBus for EccMemory {
-    ghost use Rattle.ecc_memory.specs.Memory.{memory_flips};
-    ghost use Rattle.ecc_memory.specs.MemoryStands.{MemoryStands, memory_flips_keep_words, memory_faithful};
-
-    ghost flips = { memory_flips };
-
-    ghost stands = { MemoryStands };
-
-    ghost flips_keep_words = { memory_flips_keep_words };
-
-    ghost faithful = { memory_faithful };
-
-    fn load(&mut self, w: u32, v: u64) {
-        self.cells[w as usize] = make(v);
-    }
-
-    #[tactic(auto, using(crate::proofs::Counts::counts_set))]
-    fn strike(&mut self, w: u32, bit: u8) -> bool {
-        let word = self.cells[w as usize];
-        self.cells[w as usize] = strike(bit, word);
-        word.count == 2 && !word.mark
-    }
-
-    #[tactic(auto, using(crate::proofs::Counts::counts_set))]
-    fn scrub<G: EventLog>(&mut self, w: u32, g: &mut G) {
-        let seen = read(true, w, self.cells[w as usize]);
-        self.cells[w as usize] = match seen.cell {
-            Cell::Good(v) => make(v),
-            Cell::Poison => seen.after,
-        };
-        log_event(seen.event, g);
-    }
-
-    fn cell_state(&self, w: u32) -> CellState {
-        self.cells[w as usize]
-    }
-
-    fn view(&self, w: u32) -> Cell {
-        read(false, w, self.cells[w as usize]).cell
     }
 }
 
@@ -149,6 +80,7 @@ impl LineMem for EccMemory {
 impl FlipMem for EccMemory {
     ghost use Rattle.ecc_memory.specs.Lines.{memory_calls};
     ghost use Rattle.ecc_memory.specs.LinesStand.{memory_cells_keep_words, memory_cells_keep_lines};
+    ghost use Rattle.ecc_memory.specs.WordCounts.{memory_counts_flips};
 
     ghost calls = { memory_calls };
 
@@ -156,19 +88,30 @@ impl FlipMem for EccMemory {
 
     ghost cells_keep_lines = { memory_cells_keep_lines };
 
+    ghost cells_count_flips = { memory_counts_flips };
+
     fn load(&mut self, w: u32, v: u64) {
-        FlipBus::load(self, w, v);
+        self.cells[w as usize] = make(v);
     }
 
+    #[tactic(auto, using(crate::proofs::Counts::counts_set))]
     fn strike(&mut self, w: u32, bit: u8) -> bool {
-        FlipBus::strike(self, w, bit)
+        let word = self.cells[w as usize];
+        self.cells[w as usize] = strike(bit, word);
+        word.count == 2 && !word.mark
     }
 
+    #[tactic(auto, using(crate::proofs::Counts::counts_set))]
     fn scrub<G: EventLog>(&mut self, w: u32, g: &mut G) {
-        FlipBus::scrub(self, w, g);
+        let seen = read(true, w, self.cells[w as usize]);
+        self.cells[w as usize] = match seen.cell {
+            Cell::Good(v) => make(v),
+            Cell::Poison => seen.after,
+        };
+        log_event(seen.event, g);
     }
 
     fn cell_state(&self, w: u32) -> CellState {
-        FlipBus::cell_state(self, w)
+        self.cells[w as usize]
     }
 }

@@ -1,11 +1,12 @@
 -- Two caches over a memory: the first of 16 sets of 2 ways, the second of 64 sets of 4 ways. It is a bus of words that take flips.
-use Rattle.std.specs.Prelude.{ℕ, ◌/◌, ◌%◌, List, [], replicate}
+use Rattle.std.specs.Prelude.{ℕ, ◌/◌, ◌%◌, List, [], map, replicate}
 use Rattle.poison_mem.specs.declared.cell.CellState.{CellState}
 use Rattle.poison_mem.specs.Bus.{BusMeaning, Reading}
 use Rattle.poison_mem.specs.Flips.{FlipMeaning}
 use Rattle.poison_mem.specs.Line.{cell}
 use Rattle.poison_mem.specs.Level.{Level, LineReading, CellCalls}
 use Rattle.poison_cache.specs.Cache.{CachedLines, cache_level, cache_calls, cache_store}
+use Rattle.ecc_memory.specs.Word.{made}
 use Rattle.ecc_memory.specs.Lines.{memory_level, memory_calls}
 
 -- the lines that the second cache holds, over the memory
@@ -56,3 +57,7 @@ fresh_stack cells = record {
   place = record { bank = 1; rec = 0 };
   below = record { lists = replicate 64 []; place = record { bank = 1; rec = 1 }; below = cells };
 }
+
+-- no line is held, and the memory's words are the codewords of these values
+abbrev pub loaded_stack : List ℕ → StackLines
+loaded_stack words = fresh_stack (map made words)

@@ -1,21 +1,24 @@
 -- When the stack stands for words, and that each call keeps it so.
-use Rattle.std.proofs.Common.{ℕ, ◌^◌, ◌+◌, ◌*◌, ◌/◌, ◌%◌, ◌<◌, ◌≤◌, ◌≡◌, ◌≢◌, List, [], replicate, length, subst, sym, ap, arith, slice_index_or}
-use Rattle.std.proofs.lemmas.List.{length-replicate}
+use Rattle.std.proofs.Common.{ℕ, ◌^◌, ◌+◌, ◌*◌, ◌/◌, ◌%◌, ◌<◌, ◌≤◌, ◌≡◌, List, [], replicate, length, subst, sym, ap, arith, map, slice_index}
+use Rattle.std.proofs.lemmas.List.{length-replicate, length-map}
+use Rattle.std.proofs.Math.ListN.{get_or-map}
+use Rattle.poison_mem.specs.Lists.{same_all}
 use Rattle.poison_mem.specs.declared.line.Line.{Line}
 use Rattle.poison_mem.specs.declared.cell.CellState.{CellState}
 use Rattle.poison_mem.specs.Bus.{KeepsWords}
-use Rattle.poison_mem.specs.Flips.{Shows, FlipsKeepWords, IsFaithful, stored_at, renewed_at, raised_at}
+use Rattle.poison_mem.specs.Flips.{Shows, FlipsKeepWords, IsFaithful, CountsFlips, stored_at, renewed_at, raised_at}
 use Rattle.poison_mem.specs.Line.{cell}
-use Rattle.poison_mem.specs.Level.{InRange, LineShows, LinesKeepWords, CellsKeepWords, KeepsLines, CellsKeepLines, Within, Twice, within, twice}
-use Rattle.poison_cache.specs.Recent.{entry_of}
+use Rattle.poison_mem.specs.Level.{InRange, LineShows, LinesKeepWords, CellsKeepWords, KeepsLines, CellsKeepLines, CellsCountFlips, Within, Twice, within, twice}
 use Rattle.poison_cache.specs.Sound.{IsSound, IsSoundList}
 use Rattle.poison_cache.specs.Cache.{cache_calls}
 use Rattle.poison_cache.specs.SameWords.{cache_keeps_words, store_words}
-use Rattle.poison_cache.specs.Stands.{CacheValid, CacheStands, cache_keeps_lines, cache_cells_keep_words, cache_cells_keep_lines, store-keeps, store-valid, same_all, empty-stands}
+use Rattle.poison_cache.specs.Stands.{CacheValid, CacheStands, cache_keeps_lines, cache_cells_keep_words, cache_cells_keep_lines, store-keeps, store-valid, empty-stands}
+use Rattle.poison_cache.specs.Counts.{cache_counts_flips, store_counts}
 use Rattle.ecc_memory.specs.Word.{made}
 use Rattle.ecc_memory.specs.Lines.{memory_level, memory_calls}
-use Rattle.ecc_memory.specs.LinesStand.{HasWholeLines, LineStands, memory_lines_keep_words, memory_keeps_lines, memory_cells_keep_words, memory_cells_keep_lines, zero_lines_stand, load_keeps_lines}
-use Rattle.mem_stack.specs.Stack.{SecondLines, StackLines, second_level, stack_level, stack_calls, stack_meaning, stack_flips, fresh_stack}
+use Rattle.ecc_memory.specs.WordCounts.{memory_counts_flips}
+use Rattle.ecc_memory.specs.LinesStand.{HasWholeLines, LineStands, memory_lines_keep_words, memory_keeps_lines, memory_cells_keep_words, memory_cells_keep_lines, made_lines_stand}
+use Rattle.mem_stack.specs.Stack.{SecondLines, StackLines, second_level, stack_level, stack_calls, stack_meaning, stack_flips, fresh_stack, loaded_stack}
 
 -- what holds of every second cache, and of every stack, that is reached
 abbrev pub SecondValid : SecondLines → Type 0
@@ -145,20 +148,33 @@ fresh_stands cells f q whole it = record {
   each = λ l in_range. empty-stands SecondStands 16 (record { bank = 1; rec = 0 }) _ l f q (empty-stands LineStands 64 (record { bank = 1; rec = 1 }) cells l f q (it l in_range));
 }
 
--- a new stack stands for zeros, whatever flips are told of them
-pub zeros_stand : (n : ℕ) (q : ℕ → ℕ) → n % 8 ≡ 0 → StackStands (fresh_stack (replicate n (made 0))) (λ _. 0) q
-zeros_stand n q whole = fresh_stands (replicate n (made 0)) (λ _. 0) q (rw (length-replicate n (made 0)) whole) (λ l in_range. zero_lines_stand n l q)
+-- a stack that was loaded stands for its words, whatever flips are told of them
+pub loaded_stands : (words : List ℕ) (q : ℕ → ℕ) → length words % 8 ≡ 0 → ((w : ℕ) → w < length words → slice_index words w < 2 ^ 64)
+    → StackStands (loaded_stack words) (slice_index words) q
+loaded_stands words q whole small =
+    let same : length (map made words) ≡ length words = length-map words made in
+    fresh_stands (map made words) (slice_index words) q (rw same whole) (λ l in_range. made_lines_stand words l q small (rw same at in_range))
 
--- the memory of a stack that holds no line stands for what the stack does
-fresh_line : (cells : List CellState) (f q : ℕ → ℕ) → StackStands (fresh_stack cells) f q → (l : ℕ) → 8 * l + 7 < length cells → LineStands cells l f q
-fresh_line cells f q it l in_range =
-    let nothing : entry_of l (slice_index_or (replicate 16 []) (l % 16) []) ≡ entry_of l [] = ap (entry_of l) (same_all 16 (l % 16) []) in
-    let nothing_below : entry_of l (slice_index_or (replicate 64 []) (l % 64) []) ≡ entry_of l [] = ap (entry_of l) (same_all 64 (l % 64) []) in
-    rw (nothing, nothing_below) at (it.each l in_range)
+-- only a flip adds to the flips that a word of the memory below counts
+second_counts_flips : CellsCountFlips second_level (cache_calls memory_calls)
+second_counts_flips = cache_counts_flips memory_level memory_calls memory_counts_flips 64 4
 
--- a word that was loaded into a stack that holds no line stands for its value, whatever flips are told of it
-pub load_stands : (cells : List CellState) (w v : ℕ) (f g q : ℕ → ℕ) → w < length cells → v < 2 ^ 64 → g w ≡ v → ((k : ℕ) → k ≢ w → g k ≡ f k)
-    → StackStands (fresh_stack cells) f q → StackStands (fresh_stack (memory_calls.load cells w v)) g q
-load_stands cells w v f g q inside small here elsewhere it =
-    fresh_stands (memory_calls.load cells w v) g q (rw (memory_cells_keep_words.load cells w v) it.valid.below.below)
-    (λ l in_range. load_keeps_lines cells w v l f g q inside small here elsewhere (fresh_line cells f q it l (subst (λ n. 8 * l + 7 < n) (memory_cells_keep_words.load cells w v) in_range)))
+stack_lines_count : CellsCountFlips stack_level stack_calls
+stack_lines_count = cache_counts_flips second_level (cache_calls memory_calls) second_counts_flips 16 2
+
+pub stack_counts_flips : CountsFlips stack_meaning stack_flips
+stack_counts_flips = record {
+  read = λ s w. stack_lines_count.get s (w / 8);
+  store = λ s w v mask. store_counts second_level (cache_calls memory_calls) second_counts_flips 16 2 s w v mask;
+  load = stack_lines_count.load;
+  scrub = stack_lines_count.scrub;
+  strike = stack_lines_count.strike;
+  third = stack_lines_count.third;
+}
+
+-- a stack that was loaded has these words, and counts no flip
+pub loaded_words : (words : List ℕ) → stack_meaning.words (loaded_stack words) ≡ length words
+loaded_words words = length-map words made
+
+pub loaded_counts : (words : List ℕ) (w : ℕ) → (stack_flips.cell (loaded_stack words) w).count ≡ 0
+loaded_counts words w = ap (λ (s : CellState). s.count) (get_or-map made words w 0)

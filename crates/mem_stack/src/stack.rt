@@ -1,9 +1,7 @@
 //! The stack.
 
 ghost use Rattle.std.specs.Prelude.{◌≡◌, ◌≤◌, ◌%◌, ℕ, replicate, IfOk};
-ghost use Rattle.ecc_memory.specs.Word.{made};
-ghost use Rattle.mem_stack.specs.Stack.{fresh_stack};
-ghost use Rattle.mem_stack.specs.StackStands.{StackStands};
+ghost use Rattle.mem_stack.specs.Stack.{loaded_stack};
 
 use ecc_memory::EccMemory;
 use poison_cache::Cache;
@@ -46,10 +44,7 @@ impl Stack {
         requires lines { words % 8 ≡ 0 }
         requires some { 8 ≤ words }
         requires most { words ≤ 8388608 }
-        ensures fresh { IfOk result (λ stack. stack ≡ fresh_stack (replicate words (made 0))) }
-
-        // It stands for zeros, whatever flips are told of them.
-        ensures zeros { IfOk result (λ stack. (q : ℕ → ℕ) → StackStands stack (λ _. 0) q) }
+        ensures { IfOk result (λ stack. stack ≡ loaded_stack (replicate words 0)) }
     {
         let memory = EccMemory::make(alloc, words)?;
         let l2 = L2::make(alloc, memory, 1, 1)?;
@@ -81,11 +76,9 @@ impl Bus for Stack {
 }
 
 impl FlipBus for Stack {
-    ghost use Rattle.std.specs.Prelude.{◌<◌, ◌≢◌, List};
-    ghost use Rattle.poison_mem.specs.declared.cell.CellState.{CellState};
-    ghost use Rattle.ecc_memory.specs.Lines.{memory_calls};
-    ghost use Rattle.mem_stack.specs.Stack.{stack_meaning, stack_flips, fresh_stack};
-    ghost use Rattle.mem_stack.specs.StackStands.{StackStands, stack_flips_keep_words, stack_faithful};
+    ghost use Rattle.std.specs.Prelude.{◌<◌, List, slice_set};
+    ghost use Rattle.mem_stack.specs.Stack.{stack_meaning, stack_flips, loaded_stack};
+    ghost use Rattle.mem_stack.specs.StackStands.{StackStands, stack_flips_keep_words, stack_faithful, stack_counts_flips};
 
     ghost flips = { stack_flips };
 
@@ -95,14 +88,15 @@ impl FlipBus for Stack {
 
     ghost faithful = { stack_faithful };
 
+    ghost counts_flips = { stack_counts_flips };
+
     /// Sets the word `w` of the memory.
     fn load(&mut self, w: u32, v: u64)
         requires { w < stack_meaning.words self.old }
         ensures after { self.new ≡ stack_flips.load self.old w v }
 
-        // At a stack that holds no line the loaded word stands for its value, every other for what it did, and no line is held.
-        ensures loaded { (cells : List CellState) → self.old ≡ fresh_stack cells → (self.new ≡ fresh_stack (memory_calls.load cells w v))
-            × ((f g q : ℕ → ℕ) → g w ≡ v → ((k : ℕ) → k ≢ w → g k ≡ f k) → StackStands self.old f q → StackStands self.new g q) }
+        // A stack that holds no line is loaded with the word.
+        ensures loaded { (words : List ℕ) → self.old ≡ loaded_stack words → self.new ≡ loaded_stack (slice_set words w v) }
     {
         self.l1.load(w, v);
     }

@@ -2,6 +2,8 @@ pub mod Recent
 pub mod Sound
 pub mod SoundLaws
 pub mod Cache
+pub mod Below
 pub mod SameWords
+pub mod Counts
 pub mod Entries
 pub mod Stands

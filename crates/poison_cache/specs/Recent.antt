@@ -13,6 +13,6 @@ without l [] = []
 without l (h ∷ hs) = if h.line == l then hs else h ∷ without l hs
 
 -- where the entry of a line is: none where there is no entry of it
-abbrev pub IsPlaceOf : ℕ → List Held → Option ℕ → Type 0
-IsPlaceOf l entries None = (entry_of l entries ≡ None) × (without l entries ≡ entries)
-IsPlaceOf l entries (Some k) = (k < length entries) × (entry_of l entries ≡ slice_get entries k) × (without l entries ≡ remove entries k)
+abbrev pub IsPositionOf : ℕ → List Held → Option ℕ → Type 0
+IsPositionOf l entries None = (entry_of l entries ≡ None) × (without l entries ≡ entries)
+IsPositionOf l entries (Some k) = (k < length entries) × (entry_of l entries ≡ slice_get entries k) × (without l entries ≡ remove entries k)

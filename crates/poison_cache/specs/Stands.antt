@@ -1,10 +1,11 @@
 -- What a line of a cache stands for, and the laws of a cache over any level.
-use Rattle.std.proofs.Common.{ℕ, zero, suc, ◌+◌, ◌-◌, ◌*◌, ◌%◌, ◌<◌, ◌≤◌, ◌≡◌, ◌≢◌, ◌∙◌, ◌⊎◌, inl, inr, sym, ap, refl, subst, List, [], ◌∷◌, Option, None, Some, length, take, Bool, true, false, eqb, arith, nat_lt, slice_index_or, slice_set, replicate, drop, ◌/◌}
+use Rattle.std.proofs.Common.{ℕ, ◌+◌, ◌-◌, ◌*◌, ◌%◌, ◌<◌, ◌≤◌, ◌≡◌, ◌≢◌, ◌∙◌, ◌⊎◌, inl, inr, sym, ap, refl, subst, List, [], ◌∷◌, Option, None, Some, length, take, Bool, true, false, eqb, arith, nat_lt, slice_index_or, slice_set, replicate, drop, ◌/◌}
 use Rattle.std.specs.List.{slice_get}
 use Rattle.std.proofs.lemmas.Bool.Decides.{eqb_tells}
 use Rattle.std.proofs.lemmas.List.{get_or-set_other, get_or-set_same}
 use Rattle.poison_cache.specs.declared.recent.Held.{Held}
 use Rattle.poison_mem.specs.declared.line.Line.{Line}
+use Rattle.poison_mem.specs.Lists.{same_all}
 use Rattle.poison_mem.specs.Level.{Level, InRange, LinesKeepWords, CellCalls, CellsKeepWords}
 use Rattle.poison_mem.specs.Level.{LineShows, KeepsLines, CellsKeepLines}
 use Rattle.poison_mem.specs.Flips.{raised_at, stored_at, renewed_at}
@@ -31,12 +32,6 @@ module _ {S : Type 0} (stands : S → ℕ → (ℕ → ℕ) → (ℕ → ℕ) �
 
   abbrev pub CacheStands : ℕ → CachedLines S → ℕ → (ℕ → ℕ) → (ℕ → ℕ) → Type 0
   CacheStands sets s l f q = EntryStands (entry_of l (list_of sets s l)) s.below l f q
-
--- each place of a list of equals, and what stands past its end
-pub same_all : {X : Type 0} (n k : ℕ) (x : X) → slice_index_or (replicate n x) k x ≡ x
-same_all zero k x = refl
-same_all (suc n) zero x = refl
-same_all (suc n) (suc k) x = same_all n k x
 
 -- each line of a cache that holds none stands for what it does below
 pub empty-stands : {S : Type 0} (stands : S → ℕ → (ℕ → ℕ) → (ℕ → ℕ) → Type 0) (sets : ℕ) (place : Place) (below : S) (l : ℕ) (f q : ℕ → ℕ)

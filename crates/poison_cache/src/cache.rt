@@ -41,7 +41,7 @@ fn log_cell<G: EventLog>(place: Place, line: u32, i: u8, cell: Cell, g: &mut G)
 }
 
 /// One event for each poisoned word of a line that is put down, in rising order.
-#[tactic(auto, using(crate::proofs::Places::one_more_logged))]
+#[tactic(auto, using(crate::proofs::Logging::one_more_logged))]
 fn log_poison<G: EventLog>(place: Place, held: &Held, g: &mut G)
     ensures { g.new ≡ logged_all G.logged g.old (poison_events place held.now.line held.now.cells 8) }
 {
@@ -51,7 +51,7 @@ fn log_poison<G: EventLog>(place: Place, held: &Held, g: &mut G)
 }
 
 /// An entry goes out of its list: a dirty one is put below, after its events.
-#[tactic(auto, unfolding(crate::specs::Cache::put_down), using(crate::proofs::Places::logged_both))]
+#[tactic(auto, unfolding(crate::specs::Cache::put_down), using(crate::proofs::Logging::logged_both))]
 fn put_out<M: LineMem, G: EventLog>(place: Place, held: &Held, below: &mut M, g: &mut G)
     requires { InRange M.level below.old held.now.line }
     ensures after { below.new ≡ (put_down M.level place held.now below.old).after }
@@ -88,7 +88,7 @@ fn make_room<M: LineMem, G: EventLog, const WAYS: usize>(
 }
 
 /// Takes the entry of a line out of its list, or makes room and reads the line from below.
-#[tactic(auto, unfolding(crate::specs::Cache::get_in), using(crate::proofs::Places::logged_both))]
+#[tactic(auto, unfolding(crate::specs::Cache::get_in), using(crate::proofs::Logging::logged_both))]
 fn fetch<M: LineMem, G: EventLog, const WAYS: usize>(
     place: Place,
     entries: &mut Recent<WAYS>,
@@ -309,12 +309,15 @@ impl<M: LineMem, const SETS: usize, const WAYS: usize> LineMem for Cache<M, SETS
 impl<M: FlipMem, const SETS: usize, const WAYS: usize> FlipMem for Cache<M, SETS, WAYS> {
     ghost use Rattle.poison_cache.specs.Cache.{cache_calls};
     ghost use Rattle.poison_cache.specs.Stands.{cache_cells_keep_words, cache_cells_keep_lines};
+    ghost use Rattle.poison_cache.specs.Counts.{cache_counts_flips};
 
     ghost calls = { cache_calls M.calls };
 
     ghost cells_keep_words = { cache_cells_keep_words M.level M.calls M.valid M.stands M.cells_keep_words M.keeps_words M.keeps_lines M.cells_keep_lines SETS WAYS };
 
     ghost cells_keep_lines = { cache_cells_keep_lines M.level M.calls M.valid M.stands M.cells_keep_words M.keeps_words M.keeps_lines M.cells_keep_lines SETS WAYS };
+
+    ghost cells_count_flips = { cache_counts_flips M.level M.calls M.cells_count_flips SETS WAYS };
 
     fn load(&mut self, w: u32, v: u64) {
         self.below.load(w, v);

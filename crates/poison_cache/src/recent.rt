@@ -1,7 +1,7 @@
 //! The entries of one set, the most recent first.
 
 ghost use Rattle.std.specs.Prelude.{◌≡◌, true, false, ◌<◌, ◌≤◌, ◌-◌, ◌+◌, ℕ, [], ◌∷◌, length, take, remove, slice_get, IfOk, OnSome, IfNone, IsTrue, ◌↔◌};
-ghost use Rattle.poison_cache.specs.Recent.{entry_of, without, IsPlaceOf};
+ghost use Rattle.poison_cache.specs.Recent.{entry_of, without, IsPositionOf};
 
 use poison_mem::Line;
 use ras_bits::NoMemory;
@@ -42,12 +42,12 @@ impl Held {
 }
 
 /// Where the entry of a line is.
-fn place_of(entries: &[Held], line: u32) -> Option<usize>
-    ensures { IsPlaceOf line entries.now result }
+fn position_of(entries: &[Held], line: u32) -> Option<usize>
+    ensures { IsPositionOf line entries.now result }
 {
-    for (place, held) in entries.iter().enumerate() {
+    for (position, held) in entries.iter().enumerate() {
         if held.line == line {
-            return Some(place);
+            return Some(position);
         }
     }
     None
@@ -92,8 +92,8 @@ impl<const WAYS: usize> Recent<WAYS> {
     pub(crate) fn entry(&self, line: u32) -> Option<Held>
         ensures { result ≡ entry_of line self.now }
     {
-        match place_of(&self.entries, line) {
-            Some(place) => Some(self.entries[place]),
+        match position_of(&self.entries, line) {
+            Some(position) => Some(self.entries[position]),
             None => None,
         }
     }
@@ -105,8 +105,8 @@ impl<const WAYS: usize> Recent<WAYS> {
         ensures room { OnSome result (length self.new < WAYS) }
         ensures none { IfNone result (self.new ≡ self.old) }
     {
-        match place_of(&self.entries, line) {
-            Some(place) => Some(self.entries.remove(place)),
+        match position_of(&self.entries, line) {
+            Some(position) => Some(self.entries.remove(position)),
             None => None,
         }
     }

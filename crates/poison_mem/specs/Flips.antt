@@ -1,5 +1,5 @@
 -- A bus whose words take flips, and what its state stands for.
-use Rattle.std.specs.Prelude.{◌≡◌, ℕ, ◌+◌, ◌^◌, ◌<◌, ◌≤◌, ◌==◌, Bool, false, if◌then◌else◌}
+use Rattle.std.specs.Prelude.{◌≡◌, ℕ, ◌+◌, ◌^◌, ◌<◌, ◌≤◌, ◌==◌, Bool, true, false, if◌then◌else◌}
 use Rattle.poison_mem.specs.declared.cell.Cell.{Cell}
 use Rattle.poison_mem.specs.declared.cell.Cell.TheVariants.{Good, Poison}
 use Rattle.poison_mem.specs.declared.cell.CellState.{CellState}
@@ -58,3 +58,16 @@ pub record IsFaithful {S : Type 0} (bus : BusMeaning S) (flips : FlipMeaning S) 
   pub strike_keeps : (s : S) (w bit : ℕ) (f q : ℕ → ℕ) → w < bus.words s → bit < 72 → flips.is_third s w ≡ false → stands s f q
       → stands (flips.strike s w bit) f (raised_at q w)
   pub scrub_keeps : (s : S) (w : ℕ) (f q : ℕ → ℕ) → w < bus.words s → stands s f q → stands (flips.scrub s w).after f q
+
+-- no word counts more flips in the second state than in the first
+abbrev pub CountsNoMore : {S : Type 0} → (S → ℕ → CellState) → S → S → Type 0
+CountsNoMore cell s t = (w : ℕ) → (cell t w).count ≤ (cell s w).count
+
+-- Only a flip adds to the flips that a word counts, and adds at most one, to its own word. A third flip is of a word that counts two.
+pub record CountsFlips {S : Type 0} (bus : BusMeaning S) (flips : FlipMeaning S) : Type 0 where
+  pub read : (s : S) (w : ℕ) → CountsNoMore flips.cell s (bus.read s w).after
+  pub store : (s : S) (w value mask : ℕ) → CountsNoMore flips.cell s (bus.store s w value mask).after
+  pub load : (s : S) (w value : ℕ) → CountsNoMore flips.cell s (flips.load s w value)
+  pub scrub : (s : S) (w : ℕ) → CountsNoMore flips.cell s (flips.scrub s w).after
+  pub strike : (s : S) (w bit k : ℕ) → (flips.cell (flips.strike s w bit) k).count ≤ raised_at (λ n. (flips.cell s n).count) w k
+  pub third : (s : S) (w : ℕ) → flips.is_third s w ≡ true → (flips.cell s w).count ≡ 2

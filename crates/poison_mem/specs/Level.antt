@@ -1,12 +1,12 @@
 -- A level of memory by lines, as functions of its state, and what its state stands for.
-use Rattle.std.specs.Prelude.{◌≡◌, ◌≢◌, ◌+◌, ◌*◌, ◌%◌, ◌<◌, ◌≤◌, ℕ, List, Bool, false}
+use Rattle.std.specs.Prelude.{◌≡◌, ◌≢◌, ◌+◌, ◌*◌, ◌%◌, ◌<◌, ◌≤◌, ℕ, List, Bool, true, false}
 use Rattle.poison_mem.specs.declared.cell.Cell.{Cell}
 use Rattle.poison_mem.specs.declared.cell.Cell.TheVariants.{Good, Poison}
 use Rattle.poison_mem.specs.declared.cell.CellState.{CellState}
 use Rattle.poison_mem.specs.declared.line.Line.{Line}
 use Rattle.poison_mem.specs.declared.event.Event.{Event}
 use Rattle.poison_mem.specs.Bus.{Storing}
-use Rattle.poison_mem.specs.Flips.{Shows, raised_at}
+use Rattle.poison_mem.specs.Flips.{Shows, raised_at, CountsNoMore}
 use Rattle.poison_mem.specs.Line.{cell}
 
 -- what a read of a line gives: its cells, the state after it, and the events
@@ -80,6 +80,15 @@ pub record CellsKeepLines {S : Type 0} (level : Level S) (calls : CellCalls S) (
       → stands s k f q → stands (calls.strike s w bit) k f (raised_at q w)
   pub scrub_keeps : (s : S) (w k : ℕ) (f q : ℕ → ℕ) → valid s → w < level.words s → stands s k f q → stands (calls.scrub s w).after k f q
 
+-- Only a flip adds to the flips that a word counts, and adds at most one, to its own word. A third flip is of a word that counts two.
+pub record CellsCountFlips {S : Type 0} (level : Level S) (calls : CellCalls S) : Type 0 where
+  pub get : (s : S) (l : ℕ) → CountsNoMore calls.cell s (level.get s l).after
+  pub put : (s : S) (l : ℕ) (cells : Line) → CountsNoMore calls.cell s (level.put s l cells).after
+  pub load : (s : S) (w value : ℕ) → CountsNoMore calls.cell s (calls.load s w value)
+  pub scrub : (s : S) (w : ℕ) → CountsNoMore calls.cell s (calls.scrub s w).after
+  pub strike : (s : S) (w bit k : ℕ) → (calls.cell (calls.strike s w bit) k).count ≤ raised_at (λ n. (calls.cell s n).count) w k
+  pub third : (s : S) (w : ℕ) → calls.is_third s w ≡ true → (calls.cell s w).count ≡ 2
+
 -- a cell shows this word, or poison
 abbrev pub ShowsOrPoison : ℕ → Cell → Type 0
 ShowsOrPoison value (Good v) = v ≡ value
@@ -90,7 +99,8 @@ abbrev pub PoisonedTwice : ℕ → Cell → Type 0
 PoisonedTwice flips (Good v) = Unit {0}
 PoisonedTwice flips Poison = 2 ≤ flips
 
--- *Within*: what is shown of a line that stands is its words or poison, and each call keeps every line that stands.
+-- *Within*: what is shown of a line that stands is its words or poison. A read keeps every line that stands, a put every
+-- other one, and its own stands for what the cells show.
 pub record Within {S : Type 0} (level : Level S) (valid : S → Type 0) (stands : S → ℕ → (ℕ → ℕ) → (ℕ → ℕ) → Type 0) : Type 0 where
   pub get_shows : (s : S) (l : ℕ) (f q : ℕ → ℕ) → valid s → InRange level s l → stands s l f q → (i : ℕ) → i < 8 → ShowsOrPoison (f (8 * l + i)) (cell (level.get s l).cells i)
   pub peek_shows : (s : S) (l : ℕ) (f q : ℕ → ℕ) → valid s → InRange level s l → stands s l f q → (i : ℕ) → i < 8 → ShowsOrPoison (f (8 * l + i)) (cell (level.peek s l) i)

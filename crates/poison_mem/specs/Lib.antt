@@ -1,4 +1,5 @@
 pub mod Numbers
+pub mod Lists
 pub mod Merge
 pub mod Bus
 pub mod Flat

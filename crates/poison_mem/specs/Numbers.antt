@@ -1,4 +1,4 @@
--- The numbers of uses and classes.
+-- The numbers of uses.
 use Rattle.std.specs.Prelude.{ℕ}
 use Rattle.poison_mem.specs.declared.cell.UseKind.{UseKind}
 use Rattle.poison_mem.specs.declared.cell.UseKind.TheVariants.{Fetch, Walk, Load, Amo, Sbi}

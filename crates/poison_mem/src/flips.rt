@@ -2,7 +2,7 @@
 
 ghost use Rattle.std.specs.Prelude.{◌≡◌, ◌<◌, ◌≤◌, ℕ};
 ghost use Rattle.poison_mem.specs.Bus.{logged_all};
-ghost use Rattle.poison_mem.specs.Flips.{FlipMeaning, FlipsKeepWords, IsFaithful};
+ghost use Rattle.poison_mem.specs.Flips.{FlipMeaning, FlipsKeepWords, IsFaithful, CountsFlips};
 
 use crate::bus::Bus;
 use crate::cell::{Cell, CellState};
@@ -54,4 +54,7 @@ pub trait FlipBus: Bus {
 
     /// What stands for words shows them, or poison only where two flips came, and each call keeps it so.
     ghost faithful: { IsFaithful Self.meaning flips stands };
+
+    /// Only a flip adds to the flips that a word counts, and a third flip is of a word that counts two.
+    ghost counts_flips: { CountsFlips Self.meaning flips };
 }

@@ -2,7 +2,7 @@
 
 ghost use Rattle.std.specs.Prelude.{◌≡◌, ◌%◌, ◌<◌, ◌≤◌, ℕ};
 ghost use Rattle.poison_mem.specs.Bus.{logged_all};
-ghost use Rattle.poison_mem.specs.Level.{Level, CellCalls, InRange, LinesKeepWords, CellsKeepWords, KeepsLines, CellsKeepLines};
+ghost use Rattle.poison_mem.specs.Level.{Level, CellCalls, InRange, LinesKeepWords, CellsKeepWords, KeepsLines, CellsKeepLines, CellsCountFlips};
 
 use crate::cell::CellState;
 use crate::line::Line;
@@ -93,4 +93,7 @@ pub trait FlipMem: LineMem {
 
     /// A flip that is no third one adds one flip to a line that stands; a scrub keeps each line that stands.
     ghost cells_keep_lines: { CellsKeepLines Self.level calls Self.valid Self.stands };
+
+    /// Only a flip adds to the flips that a word counts, and a third flip is of a word that counts two.
+    ghost cells_count_flips: { CellsCountFlips Self.level calls };
 }

@@ -2,7 +2,8 @@ use Rattle.std.proofs.Common.{◌≡◌, ◌+◌, ◌*◌, arith, refl}
 use Rattle.poison_mem.specs.Logs.{logged_append}
 use Rattle.poison_mem.specs.LineLaws.{one_more_cell}
 use Rattle.ecc_memory.specs.Lines.{shown_at}
-use Rattle.ecc_memory.proofs.Counts.{counts_reads}
+use Rattle.ecc_memory.specs.WordCounts.{memory_counts_flips}
+use Rattle.ecc_memory.proofs.Counts.{counts_no_more}
 use Rattle.ecc_memory.proofs.LineSteps.{unread, one_more_read, one_more_logged}
 use Rattle.ecc_memory.proofs.lines.read_words.Goals as goal
 
@@ -21,4 +22,4 @@ loop-i-preserved g c =
 pub returns-clause-counted : goal.returns-clause-counted
 returns-clause-counted g c = λ all.
     let whole : c.loop-i.i ≡ 8 = (let most = c.loop-i.auto.i-end in let least = c.loop-i-test.false in omega arith) in
-    rw (c.loop-i.invariant.cells, whole) (counts_reads c.args.cells.now c.args.l 8 (let all_in = c.requires.range in omega arith) all)
+    rw (c.loop-i.invariant.cells, whole) (counts_no_more c.args.cells.now _ (memory_counts_flips.get c.args.cells.now c.args.l) all)

@@ -1,6 +1,8 @@
-use Rattle.mem_stack.specs.StackStands.{zeros_stand}
+use Rattle.std.proofs.Common.{ap}
+use Rattle.mem_stack.specs.Stack.{fresh_stack}
+use Rattle.mem_stack.proofs.Zeros.{all_zero}
 use Rattle.mem_stack.proofs.stack.Stack.make.Goals as goal
 
-pub returns-clause-zeros : goal.returns-clause-zeros
-returns-clause-zeros c = λ q.
-    rw (c.in_ok-l1.ensures.empty, c.in_ok-l2.ensures.empty, c.in_ok-memory.ensures) (zeros_stand c.args.words q c.requires.lines)
+pub returns : goal.returns
+returns c =
+    rw (c.in_ok-l1.ensures.empty, c.in_ok-l2.ensures.empty, c.in_ok-memory.ensures) (ap fresh_stack (all_zero c.args.words))
