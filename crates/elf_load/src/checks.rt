@@ -1,7 +1,7 @@
 //! The rules of an image, in the order in which they are tried.
 
-ghost use Rattle.std.specs.Prelude.{◌≡◌, ◌≤◌, ◌+◌, ◌*◌, length, OnOk};
-ghost use Rattle.elf_load.specs.Headers.{e_phoff, HasHeaders};
+ghost use Rattle.std.specs.Prelude.{◌≡◌, ◌≤◌, ◌+◌, ◌*◌, ◌%◌, length, OnOk};
+ghost use Rattle.elf_load.specs.Headers.{e_entry, e_phoff, HasHeaders};
 ghost use Rattle.elf_load.specs.Rules.{is_at_fault, is_sought, first_sought, headers_fit, file_kept, rule_kept, entry_kept, all_kept, NoneFound};
 ghost use Rattle.elf_load.specs.Memory.{SegmentsFit};
 
@@ -136,7 +136,8 @@ fn keep_file(b: &[u8]) -> Result<(), ElfRefused>
 #[tactic(auto, unfolding(crate::specs::Rules::entry_kept))]
 fn keep_entry(b: &[u8], ram_words: u32) -> Result<(), ElfRefused>
     requires { 64 ≤ length b.now }
-    ensures { result ≡ entry_kept b.now ram_words }
+    ensures exact { result ≡ entry_kept b.now ram_words }
+    ensures aligned { OnOk result (e_entry b.now % 4 ≡ 0) }
 {
     let entry = entry_address(b);
     if entry % 4 == 0 && RAM_START <= entry && entry < RAM_START + 8 * u64::from(ram_words) {
@@ -152,6 +153,7 @@ pub fn keep_all(b: &[u8], ram_words: u32) -> Result<(), ElfRefused>
     ensures exact { result ≡ all_kept b.now ram_words }
     ensures headers { OnOk result (HasHeaders b.now) }
     ensures segments { OnOk result (SegmentsFit b.now ram_words) }
+    ensures aligned { OnOk result (e_entry b.now % 4 ≡ 0) }
 {
     keep_file(b)?;
     keep_rule(b, ram_words, Sought::Load)?;

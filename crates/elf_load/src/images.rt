@@ -1,10 +1,7 @@
 //! An image: the words of RAM and where they are entered.
 
-ghost use Rattle.std.specs.Prelude.{◌≡◌};
-ghost use Rattle.elf_load.specs.Headers.{e_entry};
-ghost use Rattle.elf_load.specs.Rules.{all_kept, raw_kept};
-ghost use Rattle.elf_load.specs.Memory.{file_memory, raw_memory};
-ghost use Rattle.elf_load.specs.Program.{IsProgram, GivesProgram};
+ghost use Rattle.std.specs.Prelude.{◌≡◌, ◌<◌, ◌%◌, ◌^◌, true, false, length, IfOk};
+ghost use Rattle.elf_load.specs.Program.{image_of, AnswersOrNoMemory};
 
 use crate::checks::keep_all;
 use crate::headers::{RAM_START, entry_address};
@@ -21,11 +18,14 @@ pub struct Image {
 }
 
 impl Model for Image {
+    ghost use Rattle.std.specs.Prelude.{◌≡◌, ◌<◌, ◌%◌, ◌^◌, length};
     ghost use Rattle.elf_load.specs.Program.{Program};
 
     ghost Value = { Program };
 
     ghost view = { λ i. record { words = i.words.items; entry = i.entry } };
+
+    ghost invariant = { λ i. (i.entry % 4 ≡ 0) × (length i.words.items < 2 ^ 32) };
 }
 
 impl Image {
@@ -34,8 +34,10 @@ impl Image {
     /// zeros up to `p_memsz` from the physical address `p_paddr` on. It is entered at `e_entry`.
     ///
     /// A refusal is the first rule of `ElfRefused` that the file breaks; `NoMemory` is want of memory.
+    #[tactic(auto, unfolding(crate::specs::Program::image_of), using(crate::proofs::WordLemmas::file_refused))]
     pub fn read(alloc: Global, b: &[u8], ram_words: u32) -> Result<Image, ElfRefused>
-        ensures { GivesProgram (IsProgram (file_memory b.now) ram_words (e_entry b.now)) (all_kept b.now ram_words) result }
+        ensures image { AnswersOrNoMemory (image_of false b.now ram_words) result }
+        ensures room { IfOk result (λ image. length image.words ≡ ram_words) }
     {
         keep_all(b, ram_words)?;
         let mut words = vec![in alloc; 0u64; ram_words as usize]?;
@@ -51,8 +53,10 @@ impl Image {
     ///
     /// `Outside(0)` exactly where they are longer than a RAM of `ram_words` words of 8 bytes;
     /// `NoMemory` is want of memory.
+    #[tactic(auto, unfolding(crate::specs::Program::image_of))]
     pub fn raw(alloc: Global, b: &[u8], ram_words: u32) -> Result<Image, ElfRefused>
-        ensures { GivesProgram (IsProgram (raw_memory b.now) ram_words 0x80000000) (raw_kept b.now ram_words) result }
+        ensures image { AnswersOrNoMemory (image_of true b.now ram_words) result }
+        ensures room { IfOk result (λ image. length image.words ≡ ram_words) }
     {
         if b.len() as u64 > 8 * u64::from(ram_words) {
             return Err(ElfRefused::Outside(0));
@@ -65,16 +69,18 @@ impl Image {
         })
     }
 
-    /// The words of RAM, from its start on.
+    /// The words of RAM, from its start on, fewer than 2^32.
     pub fn words(&self) -> &[u64]
-        ensures { result.now ≡ self.now.words }
+        ensures words { result.now ≡ self.now.words }
+        ensures room { length result.now < 2 ^ 32 }
     {
         &self.words
     }
 
-    /// The physical address at which the program is entered.
+    /// The physical address at which the program is entered, a multiple of 4.
     pub fn entry(&self) -> u64
-        ensures { result ≡ self.now.entry }
+        ensures entry { result ≡ self.now.entry }
+        ensures aligned { result % 4 ≡ 0 }
     {
         self.entry
     }

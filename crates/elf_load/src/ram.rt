@@ -3,6 +3,7 @@
 ghost use Rattle.std.specs.Prelude.{◌≡◌, ◌≤◌, ◌<◌, ◌+◌, ◌*◌, ◌%◌, ◌^◌, ℕ, true, length, slice_index, take, drop};
 ghost use Rattle.elf_load.specs.Headers.{HasHeaders, is_load};
 ghost use Rattle.elf_load.specs.Memory.{zeros, with_segment, file_memory, raw_memory, HoldsBytes, SegmentFits, SegmentsFit};
+ghost use Rattle.elf_load.specs.Program.{words_of};
 ghost use Rattle.elf_load.specs.Bytes.{with_byte, with_part, IsWordAt};
 
 use crate::headers::{ProgramHeader, RAM_START, header_count, is_load, program_header};
@@ -111,8 +112,7 @@ fn write_segment(words: &mut [u64], b: &[u8], ram_words: u32, header: &ProgramHe
     );
 }
 
-/// Loads the segments in the order of their headers.
-pub fn write_segments(words: &mut [u64], b: &[u8], ram_words: u32)
+fn load_segments(words: &mut [u64], b: &[u8], ram_words: u32)
     requires count { length words.old ≡ ram_words }
     requires headers { HasHeaders b.now }
     requires segments { SegmentsFit b.now ram_words }
@@ -124,11 +124,22 @@ pub fn write_segments(words: &mut [u64], b: &[u8], ram_words: u32)
     }
 }
 
+/// Loads the segments in the order of their headers.
+pub fn write_segments(words: &mut [u64], b: &[u8], ram_words: u32)
+    requires count { length words.old ≡ ram_words }
+    requires headers { HasHeaders b.now }
+    requires segments { SegmentsFit b.now ram_words }
+    requires zero { HoldsBytes words.old zeros }
+    ensures { words.new ≡ words_of (file_memory b.now) ram_words }
+{
+    load_segments(words, b, ram_words);
+}
+
 /// Loads raw bytes from the start of RAM on.
 pub fn write_raw(words: &mut [u64], b: &[u8])
     requires fits { length b.now ≤ 8 * length words.old }
     requires zero { HoldsBytes words.old zeros }
-    ensures { HoldsBytes words.new (raw_memory b.now) }
+    ensures { words.new ≡ words_of (raw_memory b.now) (length words.old) }
 {
     write_part(words, 0, b, b.len());
 }
