@@ -12,7 +12,8 @@ use Rattle.poison_mem.specs.declared.event.Class.TheVariants.{Corrected, Deferre
 use Rattle.poison_mem.specs.declared.event.RecordView.{RecordView}
 use Rattle.cper_sections.specs.Layout.{fru_text, memory_section_length, memory_section_type, processor_section_length, processor_section_type, record_front, severity_of}
 use Rattle.cper_sections.specs.Written.{cper_of, cper_with}
-use Rattle.cper_sections.specs.Reading.{header_kept, is_in_place, record_length, record_of, section_at, section_count, signature_end, signature_start}
+use Rattle.cper_sections.specs.Reading.{header_kept, is_in_place, record_length, record_of, section_at, section_count, sections_of, signature_end, signature_start}
+use Rattle.cper_sections.proofs.SectionLemmas.{section_read, sections_from}
 
 severity_small : (c : Class) → severity_of c < 4
 severity_small Corrected = omega arith
@@ -28,12 +29,17 @@ header_read b len whole start mark end one =
     let descriptors : 200 ≤ 200 + len = omega arith in
     rw (le-ltb _ _ long, start, eq-eqb (signature_start (codes "CPER")) _ refl, mark, end, le-ltb _ _ low, le-ltb _ _ whole, one, le-ltb _ _ descriptors) refl
 
-record_read : (b : List ℕ) (id severity at len : ℕ) (section : SectionAt) → header_kept b ≡ Ok tt → section_count b ≡ 1 → is_in_place b 0 ≡ true → section_at b 128 ≡ section
+-- the sections of a record that has one
+one_section : (b : List ℕ) (section : SectionAt) → section_count b ≡ 1 → is_in_place b 0 ≡ true → section_at b 128 ≡ section → sections_of b ≡ Ok (record { items = section ∷ [] })
+one_section b section one placed section-is =
+    ap (sections_from b [] 0) one ∙ section_read b [] 0 1 (omega arith) placed ∙ ap (λ (s : SectionAt). Ok (record { items = s ∷ [] })) section-is
+
+record_read : (b : List ℕ) (id severity at len : ℕ) (section : SectionAt) → header_kept b ≡ Ok tt → sections_of b ≡ Ok (record { items = section ∷ [] })
     → number_at 8 96 b ≡ id → number_at 4 12 b ≡ severity → number_at 8 108 b ≡ at → record_length b ≡ len
     → record_of b ≡ Ok (record { id = id; severity = severity; at = at; length = len; sections = record { items = section ∷ [] } })
 unfolding record_of
-record_read b id severity at len section header one placed section-is id-is severity-is at-is len-is =
-    rw (header, one, placed, section-is, id-is, severity-is, at-is, len-is) refl
+record_read b id severity at len section header sections id-is severity-is at-is len-is =
+    rw (header, sections, id-is, severity-is, at-is, len-is) refl
 
 -- what the record of a view says, by its bank
 pub memory_view : (v : RecordView) (id : ℕ) → v.kept.bank ≡ 0 → cper_with v id memory_section_type memory_section_length ≡ cper_of v id
@@ -96,5 +102,5 @@ module _ (v : RecordView) (id : ℕ) (section_type : List ℕ) (len : ℕ) (sect
       let own : length (joined front) ≡ 200 = length_with front [] 0 refl widths in
       let whole : 200 + len ≤ length bytes =
       omega (arith, own, section_len, ap (λ (xs : List ℕ). length xs) parts, length-append (joined front) (section ++ rest), length-append section rest) in
-      record_read bytes id (severity_of v.kept.class) v.kept.at (200 + len) _ (header_read bytes len whole starts mark end one) one in_place section_is
+      record_read bytes id (severity_of v.kept.class) v.kept.at (200 + len) _ (header_read bytes len whole starts mark end one) (one_section bytes _ one in_place section_is)
       (number_is 12 96 8 id refl id_fits) severity_is (number_is 14 108 8 v.kept.at refl at_fits) end

@@ -1,5 +1,6 @@
 -- What the reader of records answers, the first rule that is broken in the order of the tests.
-use Rattle.std.specs.Prelude.{ℕ, zero, suc, ◌+◌, ◌*◌, ◌≤◌, Bool, not, ◌&&◌, ◌==◌, nat_lt, nat_le, if◌then◌else◌, List, [], ◌∷◌, ◌++◌, length, codes, Option, Some, None, Result, Ok, Err}
+use Rattle.std.specs.Prelude.{ℕ, ◌+◌, ◌*◌, ◌≤◌, Bool, not, ◌&&◌, ◌==◌, nat_lt, nat_le, if◌then◌else◌, List, map, length, codes, Option, Some, None, Result, Ok, Err}
+use Rattle.std.specs.List.{find, range_with_len}
 use Rattle.arrayvec.specs.ArrayVec.{ArrayVec}
 use Rattle.ras_bits.specs.Fields.{field, number_at}
 use Rattle.ras_bits.specs.declared.terms.SectionAt.{SectionAt}
@@ -79,18 +80,26 @@ is_in_place b i =
     nat_le (descriptors_end b) (section_offset b (descriptor_place i))
     && nat_le (section_offset b (descriptor_place i) + section_length b (descriptor_place i)) (record_length b)
 
--- the sections that were taken, and those of the descriptors from number i on, so many, all in place
-abbrev pub sections_from : List ℕ → List SectionAt → ℕ → ℕ → Result (ArrayVec SectionAt) CperRefused
-sections_from b taken i zero = Ok (record { items = taken })
-sections_from b taken i (suc left) =
-    if not (is_in_place b i) then Err (refused.SectionPlace i)
-    else sections_from b (taken ++ section_at b (descriptor_place i) ∷ []) (i + 1) left
+-- the numbers of the sections, counted from 0
+abbrev pub section_numbers : List ℕ → List ℕ
+section_numbers b = range_with_len 0 (section_count b)
+
+-- the first section that is out of place is refused
+abbrev pub none_misplaced : Option ℕ → Result (Unit {0}) CperRefused
+none_misplaced None = Ok tt
+none_misplaced (Some i) = Err (refused.SectionPlace i)
+
+-- the sections in the order of their descriptors, where all are in place
+abbrev pub sections_of : List ℕ → Result (ArrayVec SectionAt) CperRefused
+sections_of b = do
+  placed ← none_misplaced (find (λ i. not (is_in_place b i)) (section_numbers b))
+  Ok (record { items = map (λ i. section_at b (descriptor_place i)) (section_numbers b) })
 
 -- the record at the front
 unfoldable pub record_of : List ℕ → Result Cper CperRefused
 record_of b = do
   header ← header_kept b
-  sections ← sections_from b [] 0 (section_count b)
+  sections ← sections_of b
   Ok (record {
     id = number_at 8 96 b;
     severity = number_at 4 12 b;

@@ -1,7 +1,7 @@
 //! Records, read back.
 
-ghost use Rattle.std.specs.Prelude.{◌≡◌, ◌+◌, ◌*◌, ◌≤◌, ◌<◌, [], length, OnOk};
-ghost use Rattle.cper_sections.specs.Reading.{HasDescriptors, header_kept, is_in_place, record_of, section_at, section_count, sections_from};
+ghost use Rattle.std.specs.Prelude.{◌≡◌, ◌+◌, ◌*◌, ◌≤◌, ◌<◌, length, OnOk};
+ghost use Rattle.cper_sections.specs.Reading.{HasDescriptors, header_kept, is_in_place, record_of, section_at, section_count, sections_of};
 
 use arrayvec::ArrayVec;
 use byte_fields::{array_at, u8_at};
@@ -96,7 +96,7 @@ fn descriptor_place(i: u16) -> usize
 // The sections of all descriptors.
 fn read_sections(b: &[u8]) -> Result<ArrayVec<SectionAt, 16>, CperRefused>
     requires { HasDescriptors b.now }
-    ensures { result ≡ sections_from b.now [] 0 (section_count b.now) }
+    ensures { result ≡ sections_of b.now }
 {
     let mut sections = ArrayVec::new();
     for i in 0..u16_at(b, 10) {

@@ -1,7 +1,7 @@
 use Rattle.std.proofs.Common.{◌≡◌, List, [], ◌∷◌, ◌++◌, ◌-◌, ◌+◌, true, sym, ◌∙◌, ap, arith}
 use Rattle.ras_bits.specs.declared.terms.SectionAt.{SectionAt}
-use Rattle.cper_sections.specs.Reading.{descriptor_place, is_in_place, section_at, section_count, sections_from}
-use Rattle.cper_sections.proofs.SectionLemmas.{section_read}
+use Rattle.cper_sections.specs.Reading.{descriptor_place, is_in_place, section_at, section_count}
+use Rattle.cper_sections.proofs.SectionLemmas.{section_read, sections_from}
 use Rattle.cper_sections.proofs.reading.read_sections.Goals as goal
 
 pub loop-i-preserved : goal.loop-i-preserved
