@@ -1,13 +1,17 @@
 -- Entries of a block, written one by one.
-use Rattle.std.proofs.Common.{◌≡◌, ℕ, zero, suc, ◌+◌, ◌-◌, ◌<◌, ◌≤◌, List, [], ◌∷◌, ◌++◌, length, get_or, drop, sym, ap, ◌∙◌, append_assoc, add-one, drop-cons, arith}
+use Rattle.std.proofs.Common.{◌≡◌, ℕ, zero, suc, ◌+◌, ◌-◌, ◌<◌, ◌≤◌, List, map, [], ◌∷◌, ◌++◌, ◌==◌, Result, Ok, Err, length, get_or, drop, sym, ap, ◌∙◌, append_assoc, add-one, drop-cons, arith}
 use Rattle.std.proofs.lemmas.List.{append-nil}
 use Rattle.std.proofs.Math.ListN.{drop_of_length-le}
-use Rattle.std.specs.List.{flat_map}
+use Rattle.std.specs.Prelude.{if◌then◌else◌}
+use Rattle.std.specs.List.{find, flat_map, range_with_len}
 use Rattle.byte_fields.specs.Fields.{with_fields, little, zeros}
 use Rattle.byte_fields.specs.Laws.{with_fields_behind}
 use Rattle.acpi_tables.specs.declared.blocks.Entry.{Entry}
-use Rattle.acpi_tables.specs.Layout.{block_bytes, entry_fields, entry_bytes, entry_header_length}
-use Rattle.acpi_tables.specs.Reading.{entries_from, entry_end, section_at}
+use Rattle.acpi_tables.specs.Layout.{block_bytes, entry_fields, entry_bytes}
+use Rattle.acpi_tables.specs.Reading.{entry_end, entry_place, is_past, refused_at, section_at, ◌>>=◌}
+use Rattle.acpi_tables.specs.declared.refused.TableRefused.{TableRefused}
+use Rattle.acpi_tables.specs.declared.refused.TableRefused.TheVariants as refused
+use Rattle.arrayvec.specs.ArrayVec.{ArrayVec}
 use Rattle.ras_bits.specs.declared.terms.SectionAt.{SectionAt}
 use Rattle.std.proofs.lemmas.Bool.{le-ltb}
 
@@ -23,12 +27,27 @@ entry_written out entries i e lt is =
     ∙ append_assoc out (entry_bytes e) (flat_map entry_bytes (drop (i + 1) entries))
     ∙ ap (λ (es : List Entry). out ++ flat_map entry_bytes es) (sym (next_entry entries i e lt is))
 
+-- the sections that were taken, and those of the entries from number i on, so many, the last of `count`
+abbrev pub entries_from : ℕ → List ℕ → ℕ → List SectionAt → ℕ → ℕ → Result (ArrayVec SectionAt) TableRefused
+entries_from end b count taken i left =
+    refused_at refused.Entry (find (is_past end b) (range_with_len i left))
+    >>= λ inside. if entry_place b count == end then Ok (record { items = taken ++ map (λ k. section_at b (entry_place b k)) (range_with_len i left) })
+    else Err refused.Length
+
 -- one entry is read, and the next is looked at
-pub entry_read : (end : ℕ) (b : List ℕ) (taken : List SectionAt) (i left at : ℕ) → 0 < left → at + entry_header_length ≤ end → entry_end b at ≤ end
-    → entries_from end b taken i left at ≡ entries_from end b (taken ++ section_at b at ∷ []) (i + 1) (left - 1) (entry_end b at)
-entry_read end b taken i zero at some header whole = absurd (omega arith)
-entry_read end b taken i (suc left) at some header whole =
-    rw (le-ltb _ _ header, le-ltb _ _ whole) (ap (λ (n : ℕ). entries_from end b (taken ++ section_at b at ∷ []) (i + 1) n (entry_end b at)) (omega arith))
+pub entry_read : (end : ℕ) (b : List ℕ) (count : ℕ) (taken : List SectionAt) (i left at : ℕ) → 0 < left → at ≡ entry_place b i → entry_end b at ≤ end
+    → entries_from end b count taken i left ≡ entries_from end b count (taken ++ section_at b at ∷ []) (i + 1) (left - 1)
+entry_read end b count taken i zero at some place whole = absurd (omega arith)
+entry_read end b count taken i (suc left) at some place whole =
+    let less : suc left - 1 ≡ left = omega arith in
+    let inside : entry_end b (entry_place b i) ≤ end = omega (arith, ap (entry_end b) place) in
+    rw (place, less, le-ltb _ _ inside)
+    (ap (λ (xs : List SectionAt). refused_at refused.Entry (find (is_past end b) (range_with_len (i + 1) left)) >>= λ p. if entry_place b count == end then Ok (record { items = xs }) else Err refused.Length)
+    (sym (append_assoc taken (section_at b (entry_place b i) ∷ []) (map (λ k. section_at b (entry_place b k)) (range_with_len (i + 1) left)))))
+
+-- the next entry stands where this one ends
+pub next_place : (b : List ℕ) (i at : ℕ) → at ≡ entry_place b i → entry_end b at ≡ entry_place b (i + 1)
+next_place b i at place = ap (entry_end b) place ∙ ap (entry_place b) (sym (add-one i))
 
 -- with no entry left the block is whole
 pub all_written : (out whole : List ℕ) (entries : List Entry) (i : ℕ) → length entries ≤ i → out ++ flat_map entry_bytes (drop i entries) ≡ whole → out ≡ whole

@@ -1,20 +1,21 @@
 -- What was written is read again, whatever follows it.
-use Rattle.std.proofs.Common.{◌≡◌, ℕ, ◌+◌, ◌*◌, ◌/◌, ◌%◌, ◌^◌, ◌<◌, ◌≤◌, Bool, true, false, ltb, List, [], ◌∷◌, ◌++◌, length, take, drop, Some, Ok, refl, sym, ap, ◌∙◌, append_assoc, arith}
+use Rattle.std.proofs.Common.{◌≡◌, ℕ, ◌+◌, ◌-◌, ◌*◌, ◌/◌, ◌%◌, ◌^◌, ◌<◌, ◌≤◌, Bool, true, false, ltb, List, [], ◌∷◌, ◌++◌, length, take, drop, Some, Ok, refl, sym, ap, ◌∙◌, append_assoc, arith}
 use Rattle.std.specs.Prelude.{if◌then◌else◌, sum, codes, slice_get}
 use Rattle.std.specs.List.{flat_map, AllByRecursion}
 use Rattle.std.proofs.lemmas.Bool.{le-ltb, eq-eqb}
 use Rattle.std.proofs.lemmas.List.Sums.{sum_by-cons}
-use Rattle.std.proofs.lemmas.List.{length-append, append-nil, drop-drop}
+use Rattle.std.proofs.lemmas.List.{length-append, drop-drop}
 use Rattle.ras_bits.specs.Fields.{number_at}
 use Rattle.ras_bits.specs.Fields as bits
 use Rattle.ras_bits.specs.declared.terms.SectionAt.{SectionAt}
 use Rattle.byte_fields.specs.Fields.{little, zeros, bytes_at, joined, field, Number, Bytes}
 use Rattle.byte_fields.specs.Laws.{number_back, bytes_back, behind_fields, length_with, number_further, bytes_further}
 use Rattle.acpi_tables.specs.Layout.{block_bytes, block_header, block_status, worst_severity, uncorrected, corrected, count_of, bit, data_length, entry_bytes, entry_fields, entry_length, entry_header_length, hest_bytes, bert_bytes, least_hest, bert_length}
-use Rattle.acpi_tables.specs.Reading.{table_of, signature_of, table_length, hest_of, bert_of, block_of, entries_from, section_at, section_length, entry_end}
+use Rattle.acpi_tables.specs.Reading.{table_of, signature_of, table_length, hest_of, bert_of, block_of, entries_in, section_at, section_length, entry_end, entry_place}
 use Rattle.acpi_tables.specs.Written.{IsEntry, section_of, sections_of, view_of}
 use Rattle.acpi_tables.specs.declared.blocks.Entry.{Entry}
 use Rattle.acpi_tables.proofs.TableLemmas.{hest_sums, bert_sums}
+use Rattle.acpi_tables.proofs.BlockLemmas.{entries_from, entry_read, next_place}
 
 -- ---- tables
 
@@ -81,26 +82,28 @@ section_is b at e rest is follows =
     let fru : bytes_at 20 (at + 44) b ≡ e.fru = bytes_of_entry b at e rest 7 44 20 e.fru is follows refl in
     rw (kind, severity, valid, fru, section_length-is b at e rest is follows) refl
 
-entries_back : (entries : List Entry) (b : List ℕ) (end at i : ℕ) (taken : List SectionAt) (rest : List ℕ) → drop at b ≡ flat_map entry_bytes entries ++ rest → AllByRecursion IsEntry entries
-    → at + data_length entries ≡ end → entries_from end b taken i (length entries) at ≡ Ok (record { items = taken ++ sections_of at entries })
-entries_back [] b end at i taken rest there are all =
-    let last : at ≡ end = omega arith in
-    rw (last, eq-eqb end _ refl) (ap (λ (xs : List SectionAt). Ok (record { items = xs })) (sym (append-nil taken)))
-entries_back (e ∷ entries) b end at i taken rest there are all =
+entries_back : (entries : List Entry) (b : List ℕ) (end count at i : ℕ) (taken : List SectionAt) (rest : List ℕ) → drop at b ≡ flat_map entry_bytes entries ++ rest → AllByRecursion IsEntry entries
+    → at + data_length entries ≡ end → at ≡ entry_place b i → i + length entries ≡ count
+    → entries_from end b count taken i (length entries) ≡ Ok (record { items = taken ++ sections_of at entries })
+entries_back [] b end count at i taken rest there are all place number =
+    let same : count ≡ i = omega arith in
+    let last : entry_place b count ≡ end = ap (entry_place b) same ∙ sym place ∙ omega arith in
+    rw (eq-eqb _ _ last) refl
+entries_back (e ∷ entries) b end count at i taken rest there are all place number =
     let behind = flat_map entry_bytes entries ++ rest in
     let sum : data_length (e ∷ entries) ≡ entry_length e + data_length entries = sum_by-cons entry_length e entries in
     let follows : Follows b at e behind = record { bytes = there ∙ append_assoc (entry_bytes e) (flat_map entry_bytes entries) rest } in
     let len : section_length b at ≡ length e.body.items = section_length-is b at e behind are.0 follows in
     let stop : entry_end b at ≡ at + entry_length e = ap (λ (n : ℕ). at + entry_header_length + n) len ∙ omega arith in
-    let header : at + entry_header_length ≤ end = omega arith in
     let whole : entry_end b at ≤ end = omega arith in
     let left : drop (at + entry_length e) b ≡ flat_map entry_bytes entries ++ rest =
     sym (drop-drop (entry_length e) at b) ∙ ap (drop (entry_length e)) follows.bytes ∙ behind_fields (entry_fields e) behind (are.0.kind, (are.0.fru, (refl, tt))) in
-    rw (le-ltb _ _ header, le-ltb _ _ whole)
-    (ap (λ (x : SectionAt). entries_from end b (taken ++ x ∷ []) (i + 1) (length entries) (entry_end b at)) (section_is b at e behind are.0 follows)
-    ∙ ap (entries_from end b (taken ++ section_of at e ∷ []) (i + 1) (length entries)) stop
-    ∙ entries_back entries b end (at + entry_length e) (i + 1) (taken ++ section_of at e ∷ []) rest left are.1 (omega arith)
-    ∙ ap (λ (xs : List SectionAt). Ok (record { items = xs })) (append_assoc taken (section_of at e ∷ []) (sections_of (at + entry_length e) entries)))
+    let less : length (e ∷ entries) - 1 ≡ length entries = omega arith in
+    entry_read end b count taken i (length (e ∷ entries)) at (omega arith) place whole
+    ∙ ap (entries_from end b count (taken ++ section_at b at ∷ []) (i + 1)) less
+    ∙ ap (λ (x : SectionAt). entries_from end b count (taken ++ x ∷ []) (i + 1) (length entries)) (section_is b at e behind are.0 follows)
+    ∙ entries_back entries b end count (at + entry_length e) (i + 1) (taken ++ section_of at e ∷ []) rest left are.1 (omega arith) (sym stop ∙ next_place b i at place) (omega arith)
+    ∙ ap (λ (xs : List SectionAt). Ok (record { items = xs })) (append_assoc taken (section_of at e ∷ []) (sections_of (at + entry_length e) entries))
 
 bit_small : (t : Bool) → bit t ≤ 1
 bit_small true = omega arith
@@ -125,7 +128,7 @@ count_is entries few =
     (bit_small (ltb 0 (uncorrected entries))) (bit_small (ltb 0 (corrected entries))) (bit_small (ltb 1 (uncorrected entries))) (bit_small (ltb 1 (corrected entries))) few
 
 block_read : (b : List ℕ) (status severity len count : ℕ) (sections : List SectionAt) → 20 ≤ length b → 20 + len ≤ length b → number_at 4 0 b ≡ status → number_at 4 12 b ≡ len → number_at 4 16 b ≡ severity
-    → bits.field status 4 10 ≡ count → count ≤ 16 → entries_from (20 + len) b [] 0 count 20 ≡ Ok (record { items = sections })
+    → bits.field status 4 10 ≡ count → count ≤ 16 → entries_in (20 + len) b count ≡ Ok (record { items = sections })
     → block_of b ≡ Ok (record { status = status; severity = severity; entries = record { items = sections } })
 unfolding block_of
 block_read b status severity len count sections header whole status-is len-is severity-is count-is few read =
@@ -150,5 +153,5 @@ block_back entries rest few small are =
     omega (arith, own, ap (λ (xs : List ℕ). length xs) parts, length-append (joined fields) (written ++ rest), length-append written rest, entries_length entries are) in
     let header : 20 ≤ length b = omega arith in
     let there : drop 20 b ≡ written ++ rest = ap (drop 20) parts ∙ behind_fields fields (written ++ rest) tt in
-    let sections = entries_back entries b (20 + data_length entries) 20 0 [] rest there are refl in
+    let sections = entries_back entries b (20 + data_length entries) (length entries) 20 0 [] rest there are refl refl (omega arith) in
     block_read b (block_status entries) (worst_severity entries) (data_length entries) (length entries) (sections_of 20 entries) header whole status len worst (count_is entries few) (omega arith) sections

@@ -1,10 +1,13 @@
 -- The tables sum to 0, and their sources are read one by one.
-use Rattle.std.proofs.Common.{◌≡◌, ℕ, zero, suc, ◌+◌, ◌-◌, ◌<◌, ◌≤◌, List, refl, ap, arith}
+use Rattle.std.proofs.Common.{◌≡◌, ℕ, zero, suc, ◌+◌, ◌-◌, ◌<◌, ◌≤◌, List, Result, refl, ap, arith}
 use Rattle.std.proofs.lemmas.Bool.{le-ltb}
+use Rattle.std.specs.List.{find, range_with_len}
 use Rattle.ras_bits.specs.Fields.{number_at}
 use Rattle.byte_fields.specs.Fields.{little, zeros}
 use Rattle.acpi_tables.specs.Layout.{SumsToZero, hest_bytes, bert_bytes, generic_source}
-use Rattle.acpi_tables.specs.Reading.{sources_from, source_place}
+use Rattle.acpi_tables.specs.Reading.{is_other_source, refused_at, source_place}
+use Rattle.acpi_tables.specs.declared.refused.TableRefused.{TableRefused}
+use Rattle.acpi_tables.specs.declared.refused.TableRefused.TheVariants as refused
 
 pub hest_sums : SumsToZero hest_bytes
 unfolding little zeros
@@ -13,6 +16,10 @@ hest_sums = refl
 pub bert_sums : SumsToZero bert_bytes
 unfolding little zeros
 bert_sums = refl
+
+-- of the sources from number i on, so many
+abbrev pub sources_from : ℕ → List ℕ → ℕ → ℕ → Result (Unit {0}) TableRefused
+sources_from end b i left = refused_at refused.Source (find (is_other_source end b) (range_with_len i left))
 
 -- one source is looked at, and then the next
 pub source_read : (end : ℕ) (b : List ℕ) (i left : ℕ) → 0 < left → source_place i + 64 ≤ end → number_at 2 (source_place i) b ≡ generic_source

@@ -1,5 +1,6 @@
 -- What the readers answer, the first rule that is broken in the order of the tests.
-use Rattle.std.specs.Prelude.{ℕ, zero, suc, ◌+◌, ◌*◌, ◌%◌, not, ◌==◌, nat_lt, if◌then◌else◌, List, [], ◌∷◌, ◌++◌, length, take, sum, codes, Option, Some, None, Result, Ok, Err}
+use Rattle.std.specs.Prelude.{ℕ, zero, suc, ◌+◌, ◌*◌, ◌%◌, Bool, not, ◌||◌, ◌==◌, nat_lt, if◌then◌else◌, List, map, length, take, sum, codes, Option, Some, None, Result, Ok, Err}
+use Rattle.std.specs.List.{find, range_with_len}
 use Rattle.arrayvec.specs.ArrayVec.{ArrayVec}
 use Rattle.ras_bits.specs.Fields.{field, number_at}
 use Rattle.ras_bits.specs.declared.terms.SectionAt.{SectionAt}
@@ -15,6 +16,11 @@ infixl 10 ◌>>=◌
 abbrev pub ◌>>=◌ : {A B : Type 0} → Result A TableRefused → (A → Result B TableRefused) → Result B TableRefused
 (Ok x) >>= f = f x
 (Err e) >>= f = Err e
+
+-- the first of some numbers that was found is refused
+abbrev pub refused_at : (ℕ → TableRefused) → Option ℕ → Result (Unit {0}) TableRefused
+refused_at refusal None = Ok tt
+refused_at refusal (Some i) = Err (refusal i)
 
 -- ---- tables
 
@@ -43,18 +49,18 @@ source_count b = number_at 4 36 b
 abbrev pub source_place : ℕ → ℕ
 source_place i = least_hest + 64 * i
 
--- of the sources from number i on, so many, the first that passes the table's end or has another type
-abbrev pub sources_from : ℕ → List ℕ → ℕ → ℕ → Result (Unit {0}) TableRefused
-sources_from end b i zero = Ok tt
-sources_from end b i (suc left) =
-    if nat_lt end (source_place i + 64) then Err (refused.Source i)
-    else if not (number_at 2 (source_place i) b == generic_source) then Err (refused.Source i)
-    else sources_from end b (i + 1) left
+-- source i passes the table's end or has another type
+abbrev pub is_other_source : ℕ → List ℕ → ℕ → Bool
+is_other_source end b i = nat_lt end (source_place i + 64) || not (number_at 2 (source_place i) b == generic_source)
+
+-- the first of so many sources that passes the table's end or has another type is refused
+abbrev pub sources_in : ℕ → List ℕ → ℕ → Result (Unit {0}) TableRefused
+sources_in end b count = refused_at refused.Source (find (is_other_source end b) (range_with_len 0 count))
 
 unfoldable pub hest_of : List ℕ → Result HestView TableRefused
 hest_of b = do
   end ← table_of (codes "HEST") least_hest b
-  sources ← sources_from end b 0 (source_count b)
+  sources ← sources_in end b (source_count b)
   Ok (record { sources = source_count b })
 
 unfoldable pub bert_of : List ℕ → Result BertView TableRefused
@@ -92,14 +98,21 @@ section_at b at = record {
   fru = fru_at b at;
 }
 
--- the sections that were taken, and those of the entries from number i and a place on, so many; each lies before
--- the end, and nothing is left
-abbrev pub entries_from : ℕ → List ℕ → List SectionAt → ℕ → ℕ → ℕ → Result (ArrayVec SectionAt) TableRefused
-entries_from end b taken i zero at = if at == end then Ok (record { items = taken }) else Err refused.Length
-entries_from end b taken i (suc left) at =
-    if nat_lt end (at + entry_header_length) then Err (refused.Entry i)
-    else if nat_lt end (entry_end b at) then Err (refused.Entry i)
-    else entries_from end b (taken ++ section_at b at ∷ []) (i + 1) left (entry_end b at)
+-- the place of entry i: the first stands behind the header, and each of the others where the one before it ends
+abbrev pub entry_place : List ℕ → ℕ → ℕ
+entry_place b zero = block_header_length
+entry_place b (suc i) = entry_end b (entry_place b i)
+
+-- entry i ends behind the data
+abbrev pub is_past : ℕ → List ℕ → ℕ → Bool
+is_past end b i = nat_lt end (entry_end b (entry_place b i))
+
+-- the sections of so many entries in their order, where no entry passes the end of the data and the last one ends there
+abbrev pub entries_in : ℕ → List ℕ → ℕ → Result (ArrayVec SectionAt) TableRefused
+entries_in end b count = do
+  inside ← refused_at refused.Entry (find (is_past end b) (range_with_len 0 count))
+  if entry_place b count == end then Ok (record { items = map (λ i. section_at b (entry_place b i)) (range_with_len 0 count) })
+      else Err refused.Length
 
 unfoldable pub block_of : List ℕ → Result BlockView TableRefused
 block_of b =
@@ -107,5 +120,5 @@ block_of b =
     else if nat_lt (length b) (block_header_length + block_data_length b) then Err refused.Length
     else if nat_lt 16 (entry_count b) then Err refused.Length
     else (do
-      sections ← entries_from (block_header_length + block_data_length b) b [] 0 (entry_count b) block_header_length
+      sections ← entries_in (block_header_length + block_data_length b) b (entry_count b)
       Ok (record { status = number_at 4 0 b; severity = number_at 4 16 b; entries = sections }))

@@ -1,7 +1,7 @@
 //! Status blocks, read back.
 
-ghost use Rattle.std.specs.Prelude.{◌≡◌, ◌+◌, ◌≤◌, ◌<◌, ◌^◌, [], length};
-ghost use Rattle.acpi_tables.specs.Reading.{block_of, entries_from, section_at};
+ghost use Rattle.std.specs.Prelude.{◌≡◌, ◌+◌, ◌≤◌, ◌<◌, ◌^◌, length};
+ghost use Rattle.acpi_tables.specs.Reading.{block_of, entries_in, section_at};
 
 use crate::blocks::{ENTRY_LENGTH, HEADER_LENGTH};
 use crate::refused::TableRefused;
@@ -50,7 +50,7 @@ fn read_entries(end: usize, b: &[u8], count: u32) -> Result<ArrayVec<SectionAt, 
     requires data { 20 ≤ end }
     requires there { end ≤ length b.now }
     requires places { length b.now < 2 ^ 32 }
-    ensures { result ≡ entries_from end b.now [] 0 count 20 }
+    ensures { result ≡ entries_in end b.now count }
 {
     let mut entries = ArrayVec::new();
     let mut at = HEADER_LENGTH;

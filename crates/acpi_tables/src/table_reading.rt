@@ -1,7 +1,7 @@
 //! The tables HEST and BERT, read back.
 
 ghost use Rattle.std.specs.Prelude.{◌≡◌, ◌≤◌, length, IfOk};
-ghost use Rattle.acpi_tables.specs.Reading.{bert_of, hest_of, source_count, sources_from, table_of};
+ghost use Rattle.acpi_tables.specs.Reading.{bert_of, hest_of, source_count, sources_in, table_of};
 
 use crate::refused::TableRefused;
 use crate::tables::{BERT_LENGTH, GENERIC_SOURCE, sum_over};
@@ -78,7 +78,7 @@ fn read_table(signature: &[u8; 4], least: usize, b: &[u8]) -> Result<usize, Tabl
 // Looks at so many sources, the first of which stands behind the table's header.
 fn read_sources(end: usize, b: &[u8], count: u32) -> Result<(), TableRefused>
     requires { end ≤ length b.now }
-    ensures { result ≡ sources_from end b.now 0 count }
+    ensures { result ≡ sources_in end b.now count }
 {
     for i in 0..count {
         let at = LEAST_HEST + SOURCE_LENGTH * i as usize;

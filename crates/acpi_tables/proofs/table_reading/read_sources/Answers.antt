@@ -1,6 +1,5 @@
 use Rattle.std.proofs.Common.{◌≡◌, ◌-◌, ◌+◌, sym, ◌∙◌, ap, arith}
-use Rattle.acpi_tables.specs.Reading.{sources_from}
-use Rattle.acpi_tables.proofs.TableLemmas.{source_read}
+use Rattle.acpi_tables.proofs.TableLemmas.{source_read, sources_from}
 use Rattle.acpi_tables.proofs.table_reading.read_sources.Goals as goal
 
 pub loop-i-preserved : goal.loop-i-preserved
