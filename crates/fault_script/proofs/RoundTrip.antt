@@ -8,7 +8,7 @@ use Rattle.std.proofs.lemmas.Grind.{common_steps}
 use Rattle.ras_numbers.specs.Numbers.{number_of, address_text, hex_text}
 use Rattle.ras_numbers.proofs.ReadBack.{IsDigitByte, spells_decimal, spells_hex, digit_bytes, number_of_decimal, number_of_address}
 use Rattle.fault_script.specs.Words.{words_of, lines_of, without_return}
-use Rattle.fault_script.specs.Script.{number_or, number_within, is_place, address_of, command_of, flip_of, scrub_of, acting_line, is_readable, is_idle, as_some, at_line, with_line, line_of, read_on, lines_in, ◌>>=◌}
+use Rattle.fault_script.specs.Script.{number_or, number_within, is_place, address_of, command_of, flip_of, scrub_of, acting_line, is_readable, is_idle, as_some, at_line, with_line, line_of, lines_in, ◌>>=◌}
 use Rattle.fault_script.specs.Text.{place_text, act_text, text_of}
 use Rattle.std.specs.List.Sorted.{IsNonDecreasingBy}
 use Rattle.fault_script.specs.Steps.{step_of, InRisingSteps, GivesScript}
@@ -21,6 +21,7 @@ use Rattle.fault_script.specs.declared.lines.Why.TheVariants as why
 use Rattle.fault_script.specs.declared.lines.ScriptLine.{ScriptLine}
 use Rattle.fault_script.specs.declared.lines.ScriptError.{ScriptError}
 use Rattle.fault_script.specs.declared.lines.ScriptError.TheVariants as errors
+use Rattle.fault_script.proofs.ReadingLemmas.{all_read, read_on}
 use Rattle.fault_script.proofs.SortLemmas.{sorted_again}
 use Rattle.fault_script.proofs.JoinLemmas.{IsPlain, IsWord, joined, words_joined, line_first, kept_whole, all_readable, joined_written}
 
@@ -153,7 +154,7 @@ reads_on ram_words number taken (line ∷ lines) small few fits =
     ∙ ap Ok (append_assoc taken (line ∷ []) lines)
 
 read_back : (ram_words : ℕ) (lines : List ScriptLine) → ram_words < 2 ^ 32 → IsScriptFor ram_words lines → lines_in ram_words (text_of lines) ≡ Ok lines
-read_back ram_words lines small script = reads_on ram_words 0 [] lines small (omega (arith, script.few)) script.fit
+read_back ram_words lines small script = sym (all_read ram_words (text_of lines)) ∙ reads_on ram_words 0 [] lines small (omega (arith, script.few)) script.fit
 
 ok_same : (xs ys : List ScriptLine) (read : Result (List ScriptLine) ScriptError) → read ≡ Ok xs → read ≡ Ok ys → xs ≡ ys
 ok_same xs ys read p q = cc

@@ -1,5 +1,5 @@
 -- What a text is as a script: its lines, or the first line that fails and why.
-use Rattle.std.specs.Prelude.{◌≡◌, ℕ, ◌+◌, ◌-◌, ◌*◌, ◌/◌, ◌%◌, Bool, true, false, not, ◌&&◌, ◌||◌, ◌==◌, nat_le, nat_lt, if◌then◌else◌, List, [], ◌∷◌, ◌++◌, length, get_or, Option, Some, None, Result, Ok, Err, codes, slice_index}
+use Rattle.std.specs.Prelude.{◌≡◌, ℕ, zero, suc, ◌+◌, ◌-◌, ◌*◌, ◌/◌, ◌%◌, Bool, true, false, not, ◌&&◌, ◌||◌, ◌==◌, nat_le, nat_lt, if◌then◌else◌, List, [], ◌∷◌, ◌++◌, length, get_or, Option, Some, None, Result, Ok, Err, codes, slice_index}
 use Rattle.std.specs.List.{list_all}
 use Rattle.std.specs.Str.{bytes_eq}
 use Rattle.ras_numbers.specs.Numbers.{number_of}
@@ -121,21 +121,22 @@ abbrev pub at_line : {X : Type 0} → ℕ → Result X Why → Result X ScriptEr
 at_line number (Ok x) = Ok x
 at_line number (Err refusal) = Err (errors.Refused number refusal)
 
--- the lines taken so far, and one more if it acts
+-- these lines, and one more if it acts
 abbrev pub with_line : List ScriptLine → Option ScriptLine → List ScriptLine
-with_line taken None = taken
-with_line taken (Some line) = taken ++ line ∷ []
+with_line before None = before
+with_line before (Some line) = before ++ line ∷ []
 
--- what the lines behind the first `number` give, where those gave `taken`
-abbrev pub read_on : ℕ → ℕ → List ScriptLine → List (List ℕ) → Result (List ScriptLine) ScriptError
-read_on ram_words number taken [] = Ok taken
-read_on ram_words number taken (line ∷ lines) =
-    at_line (number + 1) (line_of ram_words (length taken) line)
-    >>= λ read. read_on ram_words (number + 1) (with_line taken read) lines
+-- what the first so many lines give: each is read behind those before it, and the first that fails is refused
+abbrev pub first_lines : ℕ → List (List ℕ) → ℕ → Result (List ScriptLine) ScriptError
+first_lines ram_words lines zero = Ok []
+first_lines ram_words lines (suc k) = do
+  before ← first_lines ram_words lines k
+  read ← at_line (k + 1) (line_of ram_words (length before) (get_or lines k []))
+  Ok (with_line before read)
 
 -- the lines of a text that act, in its order, or the first line that fails
 abbrev pub lines_in : ℕ → List ℕ → Result (List ScriptLine) ScriptError
-lines_in ram_words text = read_on ram_words 0 [] (lines_of text)
+lines_in ram_words text = first_lines ram_words (lines_of text) (length (lines_of text))
 
 abbrev pub map_ok : {X Y E : Type 0} → (X → Y) → Result X E → Result Y E
 map_ok f (Ok x) = Ok (f x)

@@ -7,11 +7,11 @@ use crate::lines::{Command, Why};
 use ras_numbers::number;
 
 /// The physical address of the first byte of RAM.
-pub const RAM_START: u64 = 0x8000_0000;
+pub(crate) const RAM_START: u64 = 0x8000_0000;
 
 /// A number that is at most the limit, or the given refusal.
 #[tactic(auto, unfolding(crate::specs::Script::number_within))]
-pub fn number_within(word: &[u8], limit: u64, refusal: Why) -> Result<u64, Why>
+pub(crate) fn number_within(word: &[u8], limit: u64, refusal: Why) -> Result<u64, Why>
     ensures exact { result ≡ number_within refusal limit word.now }
     ensures bound { IfOk result (λ n. n ≤ limit) }
 {
@@ -23,7 +23,7 @@ pub fn number_within(word: &[u8], limit: u64, refusal: Why) -> Result<u64, Why>
 
 /// The address of a word in a RAM of so many words.
 #[tactic(auto, unfolding(crate::specs::Script::address_of))]
-pub fn address(word: &[u8], ram_words: u32) -> Result<u64, Why>
+pub(crate) fn address(word: &[u8], ram_words: u32) -> Result<u64, Why>
     ensures exact { result ≡ address_of ram_words word.now }
     ensures low { IfOk result (λ n. 0x80000000 ≤ n) }
     ensures high { IfOk result (λ n. n < 0x80000000 + 8 * ram_words) }
@@ -43,7 +43,7 @@ pub fn address(word: &[u8], ram_words: u32) -> Result<u64, Why>
 
 /// The command that a word names.
 #[tactic(auto, unfolding(crate::specs::Script::command_of))]
-pub fn command(word: &[u8]) -> Result<Command, Why>
+pub(crate) fn command(word: &[u8]) -> Result<Command, Why>
     ensures { result ≡ command_of word.now }
 {
     if word == b"flip".as_slice() {

@@ -12,7 +12,7 @@ pub enum Act {
     /// Bit `bit` of the codeword of word `w` is turned: 0 to 63 are the word's own bits, 64 to 71 its
     /// check bits.
     Flip { w: u32, bit: u8 },
-    /// Word `w` is read, and written back where that corrects it.
+    /// Word `w` is read, and written back where it is good, so that its flips are gone.
     Scrub { w: u32 },
 }
 
@@ -27,37 +27,29 @@ pub struct ScriptLine {
 
 /// The first word of a line that acts.
 #[derive(Clone, Copy)]
-pub enum Command {
+pub(crate) enum Command {
     Flip,
     Scrub,
 }
 
 /// Why a line is refused.
-#[derive(Clone, Copy, Debug, PartialEq, Error)]
+#[derive(Clone, Copy, Debug, PartialEq)]
 pub enum Why {
     /// A byte is neither printable ASCII, a space nor a tab. Comments are tested too.
-    #[error("bytes")]
     Bytes,
     /// The first word is no command.
-    #[error("word")]
     Word,
     /// The command has another number of words.
-    #[error("count")]
     Count,
     /// A field that must be a number isn't one below 2^64.
-    #[error("number")]
     Number,
     /// The address is not a multiple of 8 or not in RAM.
-    #[error("address")]
     Address,
     /// The bit is above 71.
-    #[error("bit")]
     Bit,
     /// The step is above 1,000,000,000.
-    #[error("step")]
     Step,
     /// 65,536 lines that act stand before this one.
-    #[error("toomany")]
     TooMany,
 }
 
@@ -65,7 +57,7 @@ pub enum Why {
 #[derive(Clone, Copy, Debug, PartialEq, Error)]
 pub enum ScriptError {
     /// The first line that is refused, counted from 1, and the first cause that it gives.
-    #[error("line {line}: {why}")]
+    #[error("line {line}: {why:?}")]
     Refused { line: u32, why: Why },
     /// Memory ran out.
     #[error("out of memory")]

@@ -111,7 +111,7 @@ fn read_line(line: &[u8], acted: usize, ram_words: u32) -> Result<Option<ScriptL
 
 /// The lines of a text that act, in its order.
 #[tactic(auto, using(crate::proofs::ReadingLemmas::fits_more))]
-pub fn read_lines(
+pub(crate) fn read_lines(
     alloc: Global,
     text: &[u8],
     ram_words: u32,

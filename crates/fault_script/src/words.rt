@@ -37,7 +37,7 @@ fn cut(bytes: &[u8], len: usize) -> (&[u8], &[u8])
 
 /// The first line, and the text behind it.
 #[tactic(auto, using(crate::proofs::WordLemmas::parts_cut, crate::proofs::WordLemmas::within))]
-pub fn cut_line(text: &[u8]) -> (&[u8], &[u8])
+pub(crate) fn cut_line(text: &[u8]) -> (&[u8], &[u8])
     requires { 0 < length text.now }
     ensures lines { parts is_line_feed text.now ≡ result.0.now ∷ parts is_line_feed result.1.now }
     ensures shorter { length result.1.now < length text.now }
@@ -56,7 +56,7 @@ fn cut_word(line: &[u8]) -> (&[u8], &[u8])
 }
 
 /// The first word, if there is one, and what stands behind it.
-pub fn next_word(line: &[u8]) -> Option<(&[u8], &[u8])>
+pub(crate) fn next_word(line: &[u8]) -> Option<(&[u8], &[u8])>
     ensures words { MatchOption result (words_of line.now ≡ []) (λ r. words_of line.now ≡ r.0.now ∷ words_of r.1.now) }
     ensures shorter { IfSome result (λ r. length r.1.now < length line.now) }
 {
@@ -72,7 +72,7 @@ pub fn next_word(line: &[u8]) -> Option<(&[u8], &[u8])>
 }
 
 /// The word with this number, or nothing.
-pub fn word_at(line: &[u8], number: usize) -> &[u8]
+pub(crate) fn word_at(line: &[u8], number: usize) -> &[u8]
     ensures { result.now ≡ get_or (words_of line.now) number [] }
 {
     let mut rest = line;
@@ -89,7 +89,7 @@ pub fn word_at(line: &[u8], number: usize) -> &[u8]
 }
 
 /// How many words a line has.
-pub fn count_words(line: &[u8]) -> usize
+pub(crate) fn count_words(line: &[u8]) -> usize
     ensures { result ≡ length (words_of line.now) }
 {
     let mut count = 0usize;
@@ -102,7 +102,7 @@ pub fn count_words(line: &[u8]) -> usize
 }
 
 /// A line without a carriage return at its end.
-pub fn trim_return(line: &[u8]) -> &[u8]
+pub(crate) fn trim_return(line: &[u8]) -> &[u8]
     ensures { result.now ≡ without_return line.now }
 {
     match line {

@@ -47,7 +47,7 @@ fn push_line(out: &mut Vec<u8>, line: &ScriptLine) -> Result<(), AllocError>
 }
 
 /// The canonical text of lines.
-pub fn write_lines(alloc: Global, lines: &[ScriptLine]) -> Result<Vec<u8>, NoMemory>
+pub(crate) fn write_lines(alloc: Global, lines: &[ScriptLine]) -> Result<Vec<u8>, NoMemory>
     ensures { IfOk result (λ v. v.items ≡ text_of lines.now) }
 {
     let mut out = Vec::new(alloc);

@@ -1,7 +1,7 @@
 use Rattle.std.proofs.Common.{◌≡◌, ◌≤◌, ◌+◌, [], length}
 use Rattle.fault_script.specs.Fits.{AreReadable}
 use Rattle.fault_script.specs.Words.{lines_of}
-use Rattle.fault_script.specs.Script.{read_on}
+use Rattle.fault_script.proofs.ReadingLemmas.{read_on}
 use Rattle.fault_script.proofs.reading.read_lines.Given as goal
 
 abbrev pub invariant-loop-rest : goal.invariant-loop-rest
