@@ -36,14 +36,14 @@ long_is name = simp (find_none, map_cond)
 
 -- an option of the table, by its rows
 pub known_option : (name : Text) (o : Opt) → option_at run_options name ≡ Some o → o.takes_value ≡ true → arg_by_id rules_built o.name ≡ Some (filled (option_rule o.name))
-known_option = at_each (λ o. o.takes_value ≡ true → arg_by_id rules_built o.name ≡ Some (filled (option_rule o.name))) run_options ((λ t. cc), ((λ t. refl), ((λ t. refl), ((λ t. refl), tt))))
+known_option = at_each (λ o. o.takes_value ≡ true → arg_by_id rules_built o.name ≡ Some (filled (option_rule o.name))) run_options ((λ t. cc), ((λ t. refl), ((λ t. refl), ((λ t. refl), ((λ t. refl), tt)))))
 
 pub apart_run : (name : Text) (o : Opt) → option_at run_options name ≡ Some o → Apart o.name run_plain
-apart_run = at_each (λ o. Apart o.name run_plain) run_options ((refl, tt), ((refl, tt), ((refl, tt), ((refl, tt), tt))))
+apart_run = at_each (λ o. Apart o.name run_plain) run_options ((refl, tt), ((refl, tt), ((refl, tt), ((refl, tt), ((refl, tt), tt)))))
 
 -- `--raw` is a flag
 pub raw_is_flag : (name : Text) (o : Opt) → option_at run_options name ≡ Some o → o.takes_value ≡ true → bytes_eq o.name (codes "raw") ≡ false
-raw_is_flag = at_each (λ o. o.takes_value ≡ true → bytes_eq o.name (codes "raw") ≡ false) run_options ((λ t. cc), ((λ t. refl), ((λ t. refl), ((λ t. refl), tt))))
+raw_is_flag = at_each (λ o. o.takes_value ≡ true → bytes_eq o.name (codes "raw") ≡ false) run_options ((λ t. cc), ((λ t. refl), ((λ t. refl), ((λ t. refl), ((λ t. refl), tt)))))
 
 pub index_run : (i : ℕ) → (arg_by_index rules_built i ≡ None) ⊎ ((name : Text) × (arg_by_index rules_built i ≡ Some (plain_at i name)))
 index_run i = go (nat_eq 1 i) refl

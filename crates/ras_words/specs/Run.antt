@@ -9,6 +9,7 @@ pub record Run : Type 0 where
   pub image : Text
   pub raw : Bool
   pub script : Option Text
+  pub input : Option Text
   pub budget : ℕ
   pub ram_mib : ℕ
 
@@ -16,6 +17,7 @@ pub record Run : Type 0 where
 abbrev pub run_options : List Opt
 run_options = record { name = codes "raw"; takes_value = false }
     ∷ record { name = codes "script"; takes_value = true }
+    ∷ record { name = codes "input"; takes_value = true }
     ∷ record { name = codes "budget"; takes_value = true }
     ∷ record { name = codes "ram-mib"; takes_value = true } ∷ []
 
@@ -29,6 +31,7 @@ run_with given image (Some budget) (Some ram_mib) = Some (record {
   image = image;
   raw = has (codes "raw") given;
   script = value_of (codes "script") given;
+  input = value_of (codes "input") given;
   budget = budget;
   ram_mib = ram_mib;
 })

@@ -27,5 +27,5 @@ empty_app = record (new_app (codes "ras")) { top = record (new_app (codes "ras")
 
 -- with its plain word and its options
 abbrev pub run_app : App
-run_app = with_rule (with_rule (with_rule (with_rule (with_rule empty_app
-    (plain_rule (codes "image"))) (flag_rule (codes "raw"))) (option_rule (codes "script"))) (option_rule (codes "budget"))) (option_rule (codes "ram-mib"))
+run_app = with_rule (with_rule (with_rule (with_rule (with_rule (with_rule empty_app
+    (plain_rule (codes "image"))) (flag_rule (codes "raw"))) (option_rule (codes "script"))) (option_rule (codes "input"))) (option_rule (codes "budget"))) (option_rule (codes "ram-mib"))

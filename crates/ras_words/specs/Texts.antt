@@ -18,6 +18,7 @@ run_in words = record {
   image = words.image.now;
   raw = words.raw;
   script = option_map (λ s. s.now) words.script;
+  input = option_map (λ s. s.now) words.input;
   budget = words.budget;
   ram_mib = words.ram_mib;
 }
@@ -37,6 +38,7 @@ pub record IsGiven (given : Given) (texts : RunTexts) : Type 0 where
   pub image : value_of (codes "image") given ≡ Some texts.image.now
   pub raw : texts.raw ≡ has (codes "raw") given
   pub script : option_map (λ s. s.now) texts.script ≡ value_of (codes "script") given
+  pub input : option_map (λ s. s.now) texts.input ≡ value_of (codes "input") given
   pub budget : option_map (λ s. s.now) texts.budget ≡ value_of (codes "budget") given
   pub ram_mib : option_map (λ s. s.now) texts.ram_mib ≡ value_of (codes "ram-mib") given
 

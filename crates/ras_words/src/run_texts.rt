@@ -66,6 +66,7 @@ fn run_command<'a>(alloc: Global) -> Result<Command<'a>, AllocError>
     let command = add(command, plain(alloc, "image"))?;
     let command = add(command, flag(alloc, "raw"))?;
     let command = add(command, option(alloc, "script"))?;
+    let command = add(command, option(alloc, "input"))?;
     let command = add(command, option(alloc, "budget"))?;
     add(command, option(alloc, "ram-mib"))
 }
@@ -76,6 +77,7 @@ pub(crate) struct RunTexts<'a> {
     pub image: &'a str,
     pub raw: bool,
     pub script: Option<&'a str>,
+    pub input: Option<&'a str>,
     pub budget: Option<&'a str>,
     pub ram_mib: Option<&'a str>,
 }
@@ -104,6 +106,7 @@ pub(crate) fn read_texts<'a>(alloc: Global, words: &'a [String]) -> Result<RunTe
         image,
         raw: matches.get_flag("raw"),
         script: matches.get_str("script"),
+        input: matches.get_str("input"),
         budget: matches.get_str("budget"),
         ram_mib: matches.get_str("ram-mib"),
     })

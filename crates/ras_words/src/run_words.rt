@@ -17,6 +17,8 @@ pub struct RunWords<'a> {
     pub raw: bool,
     /// The name of the script's file: `--script`.
     pub script: Option<&'a str>,
+    /// The name of the input's file: `--input`.
+    pub input: Option<&'a str>,
     /// The most steps, at most 1,000,000,000: `--budget`, or 10,000,000.
     pub budget: u64,
     /// The size of RAM in units of 2^20 bytes, 1 to 64: `--ram-mib`, or 16.
@@ -43,6 +45,7 @@ fn checked<'a>(texts: &RunTexts<'a>) -> Option<RunWords<'a>>
         image: texts.image,
         raw: texts.raw,
         script: texts.script,
+        input: texts.input,
         budget,
         ram_mib,
     })
@@ -64,7 +67,7 @@ fn read_run<'a>(alloc: Global, words: &'a [String]) -> Result<RunWords<'a>, Word
 /// which is `run`.
 ///
 /// A word that begins with `--` names an option by its whole name: `--raw`, `--script FILE`,
-/// `--budget N` or `--ram-mib N`. The value follows the first `=` in the word, or is the next word,
+/// `--input FILE`, `--budget N` or `--ram-mib N`. The value follows the first `=` in the word, or is the next word,
 /// which must not begin with `-` unless it is `-` alone. After the word `--` each word is plain.
 /// Options and plain words come in any order. A number is decimal digits, or `0x` and hexadecimal
 /// digits, within the limits of its option.

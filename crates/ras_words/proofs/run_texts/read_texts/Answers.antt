@@ -53,7 +53,8 @@ returns-clause-taken c =
           | inr v ↦ c.get_flag.ensures.value (one ∙ flag_given p.given (codes "true") v) ∙ sym (has_some (codes "raw") (codes "true") p.given v)
         ];
         script = c.get_str-2.ensures ∙ first_is _ ws m (codes "script") e h ∙ ap (first_of (codes "script")) p.taken.rows ∙ first_given (codes "script") p.given refl;
-        budget = c.get_str-3.ensures ∙ first_is _ ws m (codes "budget") e h ∙ ap (first_of (codes "budget")) p.taken.rows ∙ first_given (codes "budget") p.given refl;
-        ram_mib = c.get_str-4.ensures ∙ first_is _ ws m (codes "ram-mib") e h ∙ ap (first_of (codes "ram-mib")) p.taken.rows ∙ first_given (codes "ram-mib") p.given refl;
+        input = c.get_str-3.ensures ∙ first_is _ ws m (codes "input") e h ∙ ap (first_of (codes "input")) p.taken.rows ∙ first_given (codes "input") p.given refl;
+        budget = c.get_str-4.ensures ∙ first_is _ ws m (codes "budget") e h ∙ ap (first_of (codes "budget")) p.taken.rows ∙ first_given (codes "budget") p.given refl;
+        ram_mib = c.get_str-5.ensures ∙ first_is _ ws m (codes "ram-mib") e h ∙ ap (first_of (codes "ram-mib")) p.taken.rows ∙ first_given (codes "ram-mib") p.given refl;
       };
     }

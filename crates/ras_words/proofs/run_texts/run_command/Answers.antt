@@ -11,5 +11,6 @@ returns c =
     let image = c.in_ok-command.ensures ∙ ap₂ with_rule none c.plain.ensures.rule in
     let raw = c.in_ok-command-2.ensures ∙ ap₂ with_rule image c.flag.ensures.rule in
     let script = c.in_ok-command-3.ensures ∙ ap₂ with_rule raw c.option.ensures.rule in
-    let budget = c.in_ok-command-4.ensures ∙ ap₂ with_rule script c.option-2.ensures.rule in
-    IfOk-weaker c.add-5.result _ _ (λ b h. h ∙ ap₂ with_rule budget c.option-3.ensures.rule) c.add-5.ensures
+    let input = c.in_ok-command-4.ensures ∙ ap₂ with_rule script c.option-2.ensures.rule in
+    let budget = c.in_ok-command-5.ensures ∙ ap₂ with_rule input c.option-3.ensures.rule in
+    IfOk-weaker c.add-6.result _ _ (λ b h. h ∙ ap₂ with_rule budget c.option-4.ensures.rule) c.add-6.ensures
