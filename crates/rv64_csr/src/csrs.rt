@@ -1,6 +1,6 @@
 //! The register file.
 
-ghost use Rattle.std.specs.Prelude.{◌≡◌, ◌+◌, ◌%◌, ◌^◌};
+ghost use Rattle.std.specs.Prelude.{◌≡◌, ◌+◌, ◌/◌, ◌%◌, ◌^◌, ◌⊎◌};
 ghost use Rattle.rv64_csr.specs.File.{CsrFile, reset, sip_of, value_of, stored, has_known_mode, read_of, write_of, trap_vector, entered, returned, pending_of, is_waiting};
 ghost use Rattle.rv64_csr.specs.Table.{IsKept};
 ghost use Rattle.rv64_csr.specs.Parts.{parts_of, file_from, is_held};
@@ -169,6 +169,7 @@ impl Csrs {
     #[tactic(auto, using(crate::proofs::Masks::and_twice))]
     pub fn enter(&mut self, cause: u64, tval: u64, pc: u64, mode: Mode) -> u64
         ensures pc { result ≡ trap_vector self.old.stvec cause }
+        ensures aligned { result % 4 ≡ 0 }
         ensures after { self.new ≡ entered self.old cause tval pc mode }
     {
         self.status.spie = self.status.sie;
@@ -185,6 +186,7 @@ impl Csrs {
     pub fn sret(&mut self) -> (Mode, u64)
         ensures mode { result.0 ≡ self.old.status.spp }
         ensures pc { result.1 ≡ self.old.sepc }
+        ensures aligned { result.1 % 4 ≡ 0 }
         ensures after { self.new ≡ returned self.old }
     {
         let mode = self.status.spp;
@@ -239,9 +241,10 @@ impl Csrs {
         self.retired = self.retired.wrapping_add(1);
     }
 
-    /// satp.
+    /// satp. Its MODE is Bare (0) or Sv39 (8).
     pub fn satp(&self) -> u64
-        ensures { result ≡ self.now.satp }
+        ensures value { result ≡ self.now.satp }
+        ensures mode { (result / 2 ^ 60 ≡ 0) ⊎ (result / 2 ^ 60 ≡ 8) }
     {
         self.satp
     }

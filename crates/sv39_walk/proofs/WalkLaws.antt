@@ -1,5 +1,5 @@
 -- A walk by its entries, and how many it needs.
-use Rattle.std.proofs.Common.{◌≡◌, ℕ, zero, suc, ◌+◌, ◌-◌, ◌*◌, ◌≤◌, ◌<◌, ◌==◌, Bool, true, false, if◌then◌else◌, List, [], ◌∷◌, ◌++◌, refl, ap, ◌∙◌, sym, arith, subst}
+use Rattle.std.proofs.Common.{◌≡◌, ℕ, zero, suc, ◌+◌, ◌*◌, ◌≤◌, ◌<◌, ◌==◌, Bool, true, false, if◌then◌else◌, List, [], ◌∷◌, ◌++◌, refl, ap, ◌∙◌, sym, arith, subst}
 use Rattle.ras_bits.specs.Fields.{field}
 use Rattle.sv39_walk.specs.declared.request.Request.{Request}
 use Rattle.sv39_walk.specs.declared.entry.Outcome.{Outcome}
@@ -7,7 +7,7 @@ use Rattle.sv39_walk.specs.declared.entry.Outcome.TheVariants.{PageFault, NextTa
 use Rattle.sv39_walk.specs.declared.step.WalkStep.{WalkStep}
 use Rattle.sv39_walk.specs.declared.step.WalkStep.TheVariants as step
 use Rattle.sv39_walk.specs.Entry.{is_malformed, is_invalid, is_writable_only, has_reserved_bits, is_pointer, has_leaf_bits}
-use Rattle.sv39_walk.specs.Walking.{Walking, Done, Fault, Need, IsNeed, page_fault, entry_address, is_canonical, next_table, walk, walk_from, outcome_of, by_outcome, after_entry, after_entries, next_of, needs, NeedsAtMost}
+use Rattle.sv39_walk.specs.Walking.{Walking, Done, Fault, Need, IsNeed, page_fault, entry_address, is_canonical, next_table, walk, walk_from, outcome_of, by_outcome, after_entry, after_entries, next_of, needs}
 use Rattle.sv39_walk.specs.Place.{Standing, left_of, left_after}
 use Rattle.sv39_walk.specs.Steps.{step_from, walk_step, StandsAfter}
 
@@ -121,37 +121,6 @@ pub next_from : (request : Request) (level table address : ℕ) → address ≡ 
 unfolding walk_from
 next_from request zero table address h = ap step.Need h
 next_from request (suc level) table address h = ap step.Need h
-
-most_by_outcome : (cause : ℕ) (below : ℕ → Walking) (most : ℕ) (outcome : Outcome)
-    → ((table : ℕ) → NeedsAtMost most (below table)) → NeedsAtMost most (by_outcome (Fault cause) below Done outcome)
-most_by_outcome cause below most PageFault h = tt
-most_by_outcome cause below most (NextTable table) h = h table
-most_by_outcome cause below most (Translated address) h = tt
-
-most_from : (request : Request) (level table most : ℕ) → level < most → NeedsAtMost most (walk_from request level table)
-unfolding walk_from
-most_from request zero table most h = (
-  h,
-  λ entry. most_by_outcome (page_fault request.kind) (λ below. Fault (page_fault request.kind)) (most - 1) (outcome_of request 0 entry) (λ below. tt),
-)
-most_from request (suc level) table most h = (
-  omega arith,
-  λ entry. most_by_outcome (page_fault request.kind) (walk_from request level) (most - 1) (outcome_of request (suc level) entry)
-      (λ below. most_from request level below (most - 1) (omega arith)),
-)
-
-most_started : (bare canonical : Bool) (address cause : ℕ) (from : Walking) → NeedsAtMost 3 from
-    → NeedsAtMost 3 (if bare then Done address else if canonical then from else Fault cause)
-most_started true canonical address cause from h = tt
-most_started false true address cause from h = h
-most_started false false address cause from h = tt
-
--- a walk asks for at most three entries
-pub at_most_three : (satp : ℕ) (request : Request) → NeedsAtMost 3 (walk satp request)
-unfolding walk
-at_most_three satp request =
-    most_started (field satp 60 4 == 0) (is_canonical request.va) request.va (page_fault request.kind) (walk_from request 2 (field satp 0 44 * 4096))
-    (most_from request 2 (field satp 0 44 * 4096) 3 (omega arith))
 
 -- where an entry is wanted, the walk is in need of one
 pub is_need : (walking : Walking) (address : ℕ) → step.Need address ≡ next_of walking → IsNeed walking
