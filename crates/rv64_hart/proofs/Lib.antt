@@ -1,0 +1,5 @@
+pub mod Walks
+pub mod Transfers
+pub mod Numbers
+pub mod Calls
+pub mod Stops

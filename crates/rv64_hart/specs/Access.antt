@@ -1,6 +1,7 @@
 -- Accesses to memory: the words of RAM that addresses name, and the bytes of a word that a load takes and a store changes.
 use Rattle.std.specs.Prelude.{ℕ, Bool, ◌-◌, ◌*◌, ◌/◌, ◌%◌, ◌^◌, ◌==◌, ◌&&◌, nat_lt, nat_le, if◌then◌else◌}
 use Rattle.ras_bits.specs.Fields.{field, sign_extended}
+use Rattle.sbi_calls.specs.Span.{ram_base}
 use Rattle.rv64_decode.specs.declared.instr.LoadOp.{LoadOp}
 use Rattle.rv64_decode.specs.declared.instr.LoadOp.TheVariants.{Lb, Lh, Lw, Ld, Lbu, Lhu, Lwu}
 use Rattle.rv64_decode.specs.declared.instr.StoreOp.{StoreOp}
@@ -10,11 +11,11 @@ use Rattle.rv64_hart.specs.declared.access.Width.TheVariants.{Byte, Halfword, Wo
 
 -- the byte at this address is in RAM
 abbrev pub is_ram : ℕ → ℕ → Bool
-is_ram words address = nat_le 0x8000_0000 address && nat_lt ((address - 0x8000_0000) / 8) words
+is_ram words address = nat_le ram_base address && nat_lt ((address - ram_base) / 8) words
 
 -- the word of an address in RAM
 abbrev pub word_of : ℕ → ℕ
-word_of address = (address - 0x8000_0000) / 8
+word_of address = (address - ram_base) / 8
 
 -- the instruction at the pc, in the word that holds it
 abbrev pub instruction_at : ℕ → ℕ → ℕ
@@ -48,10 +49,6 @@ store_width Sd = Doubleword
 abbrev pub is_aligned : Width → ℕ → Bool
 is_aligned width address = address % bytes_in width == 0
 
--- it is in RAM and aligned, so that all its bytes stand in one word
-abbrev pub is_allowed : ℕ → Width → ℕ → Bool
-is_allowed words width address = is_ram words address && is_aligned width address
-
 -- ---- bytes
 
 -- the lowest bit, in its word, of the byte at this address
@@ -68,10 +65,18 @@ load_result Lbu value lo = field value lo 8
 load_result Lhu value lo = field value lo 16
 load_result Lwu value lo = field value lo 32
 
--- the bytes that a store changes, one bit for each byte of the word: as many as the width has, from the address's byte on
+-- a mask of so many bytes of a word from this one on, one bit for each byte
+abbrev pub byte_mask : ℕ → ℕ → ℕ
+byte_mask first count = (2 ^ count - 1) * 2 ^ first % 2 ^ 8
+
+-- a value with its lowest byte at this byte of a word
+abbrev pub placed : ℕ → ℕ → ℕ
+placed first value = value * 2 ^ (8 * first) % 2 ^ 64
+
+-- the bytes that a store changes: as many as the width has, from the address's byte on
 abbrev pub store_mask : Width → ℕ → ℕ
-store_mask width address = (2 ^ bytes_in width - 1) * 2 ^ (address % 8) % 2 ^ 8
+store_mask width address = byte_mask (address % 8) (bytes_in width)
 
 -- the value of a store, with its lowest byte at the address's byte
 abbrev pub store_value : ℕ → ℕ → ℕ
-store_value address value = value * 2 ^ first_bit address % 2 ^ 64
+store_value address value = placed (address % 8) value

@@ -6,9 +6,10 @@ use Rattle.poison_mem.specs.Bus.{BusMeaning, KeepsWords, logged_all}
 use Rattle.poison_mem.specs.Asking.{Asking, Played, Ended, Poisoned, bus_of, play}
 use Rattle.poison_mem.specs.Plays.{play_keeps_words}
 use Rattle.rv64_hart.specs.State.{ArchitecturalState}
-use Rattle.rv64_hart.specs.Turn.{Outcome, End, Unbuilt, Store, Stepped, stored, finished, step_of, end_of, has_room}
-use Rattle.rv64_hart.specs.declared.ends.GuestStop.{GuestStop}
-use Rattle.rv64_hart.specs.declared.ends.GuestStop.TheVariants.{ConsoleFull}
+use Rattle.rv64_hart.specs.Outcome.{Outcome, End, Store, has_room}
+use Rattle.rv64_hart.specs.Turn.{Stepped, stored, finished, step_of, end_of}
+use Rattle.sbi_calls.specs.declared.stop.GuestStop.{GuestStop}
+use Rattle.sbi_calls.specs.declared.stop.GuestStop.TheVariants.{ConsoleFull}
 use Rattle.rv64_hart.specs.declared.ends.TurnEnd.TheVariants.{Stop}
 
 -- stores keep the number of words
@@ -34,7 +35,6 @@ finished_keeps_words bus logged h console (Ended (End after stores bytes stop) b
     either : (fits : Bool) → bus.words (ended_by bus logged h console after stores bytes stop b log fits).bus ≡ bus.words b
     either true = stored_keeps_words bus logged stores b log keeps
     either false = refl
-finished_keeps_words bus logged h console (Ended Unbuilt b log) keeps = refl
 finished_keeps_words bus logged h console (Poisoned w use_kind b log) keeps = refl
 
 -- a step keeps the number of words

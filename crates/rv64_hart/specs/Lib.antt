@@ -1,5 +1,14 @@
 pub mod State
 pub mod Access
+pub mod Traps
+pub mod Outcome
+pub mod Translation
+pub mod Operations
+pub mod System
+pub mod Firmware
 pub mod Turn
 pub mod Within
+pub mod Bounds
+pub mod Bound
+pub mod Stops
 pub mod Laws

@@ -1,18 +1,34 @@
--- What a hart keeps between two steps, and how one register of it changes.
-use Rattle.std.specs.Prelude.{ℕ, List, ◌+◌, ◌%◌, ◌^◌, ◌==◌, if◌then◌else◌, slice_index, slice_set, replicate}
+-- What a hart keeps between two steps, and how parts of it change.
+use Rattle.std.specs.Prelude.{ℕ, List, Option, None, ◌+◌, ◌%◌, ◌^◌, ◌==◌, if◌then◌else◌, slice_index, slice_set, replicate}
 use Rattle.ras_bits.specs.declared.terms.Mode.{Mode}
 use Rattle.ras_bits.specs.declared.terms.Mode.TheVariants.{Supervisor}
+use Rattle.rv64_csr.specs.File as file
+use Rattle.rv64_csr.specs.File.{CsrFile}
+use Rattle.rv64_hart.specs.declared.reservation.Reservation.{Reservation}
 
--- the hart's number, its pc, the registers x0 to x31, and its mode
+-- The hart's number, its pc, the registers x0 to x31, its mode, its supervisor registers with the timer and the number
+-- of retired instructions, its reservation, and its place in the input.
 pub record ArchitecturalState : Type 0 where
   pub number : ℕ
   pub pc : ℕ
   pub registers : List ℕ
   pub mode : Mode
+  pub csrs : CsrFile
+  pub reservation : Option Reservation
+  pub place : ℕ
 
--- the state in which a hart starts: in S mode, with its number in a0 and 0 in all other registers
+-- The state in which a hart starts: in S mode, with its number in a0 and 0 in all other registers, no reservation, and
+-- at the input's first byte.
 abbrev pub reset : ℕ → ℕ → ArchitecturalState
-reset id entry = record { number = id; pc = entry; registers = slice_set (replicate 32 0) 10 id; mode = Supervisor }
+reset id entry = record {
+  number = id;
+  pc = entry;
+  registers = slice_set (replicate 32 0) 10 id;
+  mode = Supervisor;
+  csrs = file.reset;
+  reservation = None;
+  place = 0;
+}
 
 -- the value of register x i
 abbrev pub register : ArchitecturalState → ℕ → ℕ
@@ -33,3 +49,15 @@ add64 a b = (a + b) % 2 ^ 64
 -- the state at the next instruction
 abbrev pub next_pc : ArchitecturalState → ArchitecturalState
 next_pc h = with_pc h (add64 h.pc 4)
+
+-- one instruction more is retired
+abbrev pub retired : ArchitecturalState → ArchitecturalState
+retired h = record h { csrs = record h.csrs { retired = add64 h.csrs.retired 1 } }
+
+-- a result in a register, and the instruction is retired
+abbrev pub computed : ArchitecturalState → ℕ → ℕ → ArchitecturalState
+computed h rd result = with_register (next_pc (retired h)) rd result
+
+-- nothing but that the instruction is retired
+abbrev pub passed : ArchitecturalState → ArchitecturalState
+passed h = next_pc (retired h)

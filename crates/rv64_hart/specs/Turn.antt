@@ -1,43 +1,33 @@
 -- One turn of a hart: what it asks for and what it comes to, and what a step over a bus makes of it.
-use Rattle.std.specs.Prelude.{ℕ, ℤ, Bool, List, [], ◌∷◌, ◌++◌, Option, Some, None, length, ◌-◌, ◌*◌, ◌/◌, ◌%◌, ◌^◌, ◌==◌, nat_le, if◌then◌else◌}
+use Rattle.std.specs.Prelude.{ℕ, ℤ, Bool, List, [], ◌∷◌, ◌++◌, Option, Some, None, ◌*◌, ◌/◌, ◌%◌, ◌^◌, ◌==◌, if◌then◌else◌}
 use Rattle.std.specs.Int.{w64, cast_unsigned}
 use Rattle.ras_bits.specs.Fields.{sign_extended}
+use Rattle.ras_bits.specs.declared.terms.Access.{Access}
+use Rattle.ras_bits.specs.declared.terms.Mode.{Mode}
+use Rattle.ras_bits.specs.declared.terms.Mode.TheVariants.{User, Supervisor}
 use Rattle.poison_mem.specs.declared.cell.UseKind.{UseKind}
 use Rattle.poison_mem.specs.declared.event.Event.{Event}
 use Rattle.poison_mem.specs.Bus.{BusMeaning, logged_all}
-use Rattle.poison_mem.specs.Asking.{Asking, Answer, asked, follow, ◌>>=◌, Played, Ended, Poisoned, play}
+use Rattle.poison_mem.specs.Asking.{Asking, asked, follow, ◌>>=◌, Played, Ended, Poisoned, play}
+use Rattle.sbi_calls.specs.declared.stop.GuestStop.{GuestStop}
+use Rattle.sbi_calls.specs.declared.stop.GuestStop.TheVariants.{ConsoleFull}
+use Rattle.rv64_csr.specs.File.{pending_of}
 use Rattle.rv64_decode.specs.declared.instr.Instr.{Instr}
 use Rattle.rv64_decode.specs.declared.instr.Instr.TheVariants as instr
-use Rattle.rv64_decode.specs.declared.instr.LoadOp.{LoadOp}
-use Rattle.rv64_decode.specs.declared.instr.StoreOp.{StoreOp}
 use Rattle.rv64_decode.specs.Rows.{row}
 use Rattle.rv64_alu.specs.Results.{alu_result, alu_w_result, mul_result, branch_taken}
-use Rattle.rv64_hart.specs.State.{ArchitecturalState, register, with_register, with_pc, add64, next_pc}
-use Rattle.rv64_hart.specs.Access.{is_ram, word_of, instruction_at, load_width, store_width, is_allowed, first_bit, load_result, store_mask, store_value}
-use Rattle.rv64_hart.specs.declared.console.TheConstants.{ROOM}
-use Rattle.rv64_hart.specs.declared.ends.GuestStop.{GuestStop}
-use Rattle.rv64_hart.specs.declared.ends.GuestStop.TheVariants.{Shutdown, ConsoleFull}
+use Rattle.rv64_hart.specs.State.{ArchitecturalState, register, with_register, with_pc, add64, retired, computed, passed}
+use Rattle.rv64_hart.specs.Traps.{trapped, raised, illegal}
+use Rattle.rv64_hart.specs.Access.{word_of, instruction_at}
+use Rattle.rv64_hart.specs.Outcome.{Outcome, End, Store, went, has_room}
+use Rattle.rv64_hart.specs.Translation.{Location, At, Refused, located}
+use Rattle.rv64_hart.specs.Operations.{accessed}
+use Rattle.rv64_hart.specs.System.{csr_done, trap_returned, privileged}
+use Rattle.rv64_hart.specs.Firmware.{firmware_called}
 use Rattle.rv64_hart.specs.declared.ends.TurnEnd.{TurnEnd}
 use Rattle.rv64_hart.specs.declared.ends.TurnEnd.TheVariants as ends
-
--- a store of the bytes of the mask's set bits into word w
-pub record Store : Type 0 where
-  pub w : ℕ
-  pub value : ℕ
-  pub mask : ℕ
-
--- What a turn comes to once it has its words: the state after it, the stores, the bytes for the console and
--- maybe a stop; or it needs what is not built.
-pub data Outcome : Type 0 where
-  End : (after : ArchitecturalState) → (stores : List Store) → (bytes : List ℕ) → (stop : Option GuestStop) → Outcome
-  Unbuilt : Outcome
-
--- an end with this state, and nothing else
-abbrev pub went : ArchitecturalState → Asking Outcome
-went h = Answer (End h [] [] None)
-
-abbrev pub unbuilt : Asking Outcome
-unbuilt = Answer Unbuilt
+use Rattle.rv64_hart.specs.declared.operation.Operation.TheVariants as operation
+use Rattle.rv64_hart.specs.declared.traps.Exception.TheVariants as exception
 
 -- ---- operands
 
@@ -57,81 +47,85 @@ upper imm = sign_extended (imm * 2 ^ 12) 32
 abbrev pub even : ℕ → ℕ
 even address = address / 2 * 2
 
--- ---- the kinds of instructions
+-- ---- jumps and branches
 
--- a result in a register
-abbrev pub computed : ArchitecturalState → ℕ → ℕ → Asking Outcome
-computed h rd result = went (with_register (next_pc h) rd result)
-
--- a jump that leaves the next address in a register
-unfoldable pub jumped : ArchitecturalState → ℕ → ℕ → Asking Outcome
+-- a jump that leaves the next address in a register; a target that isn't a multiple of 4 is an exception at the jump
+unfoldable pub jumped : ArchitecturalState → ℕ → ℕ → ArchitecturalState
 jumped h rd target =
-    if target % 4 == 0 then went (with_register (with_pc h target) rd (add64 h.pc 4)) else unbuilt
+    if target % 4 == 0 then with_register (with_pc (retired h) target) rd (add64 h.pc 4)
+    else raised h exception.InstructionAddressMisaligned target
 
 -- a branch, taken or not
-unfoldable pub branched : ArchitecturalState → Bool → ℕ → Asking Outcome
+unfoldable pub branched : ArchitecturalState → Bool → ℕ → ArchitecturalState
 branched h taken target =
-    if taken then (if target % 4 == 0 then went (with_pc h target) else unbuilt) else went (next_pc h)
+    if taken
+    then (if target % 4 == 0 then with_pc (retired h) target else raised h exception.InstructionAddressMisaligned target)
+    else passed h
 
--- a load: it asks for the one word that holds its bytes
-unfoldable pub loaded : ℕ → ArchitecturalState → LoadOp → ℕ → ℕ → Asking Outcome
-loaded words h op rd address =
-    if is_allowed words (load_width op) address then (do
-      value ← asked (word_of address) UseKind.Load
-      computed h rd (load_result op value (first_bit address)))
-    else unbuilt
+-- ---- every instruction
 
--- a store: it asks for no word, and its mask tells which bytes of its word change
-unfoldable pub saved : ℕ → ArchitecturalState → StoreOp → ℕ → ℕ → Asking Outcome
-saved words h op address value =
-    if is_allowed words (store_width op) address
-    then Answer (End (next_pc h) (record { w = word_of address; value = store_value address value; mask = store_mask (store_width op) address } ∷ []) [] None)
-    else unbuilt
+-- an environment call: from U mode a trap, from S mode a call to the firmware
+abbrev pub called_in : Mode → ℕ → ArchitecturalState → List ℕ → Asking Outcome
+called_in User words h input = went (raised h exception.EnvironmentCallFromUser 0)
+called_in Supervisor words h input = firmware_called words h input
 
--- A firmware call (SBI, "Legacy Extensions"): its number is in a7 (x17). Call 1 writes the low byte of a0 (x10)
--- to the console and answers 0, and call 8 shuts the machine down.
-unfoldable pub called : ArchitecturalState → Asking Outcome
-called h =
-    let call = register h 17 in
-    if call == 1 then Answer (End (with_register (next_pc h) 10 0) [] (register h 10 % 256 ∷ []) None)
-    else if call == 8 then Answer (End (next_pc h) [] [] (Some (Shutdown 0)))
-    else unbuilt
+unfoldable pub called : ℕ → ArchitecturalState → List ℕ → Asking Outcome
+called words h input = called_in h.mode words h input
 
--- An instruction (unprivileged manual, chapters "RV32I", "RV64I", "Zifencei" and "M"). The fences do nothing. The
--- breakpoint, the privileged instructions, those of supervisor registers and the atomic ones are not built.
-unfoldable pub executed : ℕ → ArchitecturalState → Instr → Asking Outcome
-executed words h (instr.Lui rd imm) = computed h rd (upper imm)
-executed words h (instr.Auipc rd imm) = computed h rd (add64 h.pc (upper imm))
-executed words h (instr.Jal rd off) = jumped h rd (offset_by h.pc off)
-executed words h (instr.Jalr rd rs1 imm) = jumped h rd (even (offset_by (register h rs1) imm))
-executed words h (instr.Branch op rs1 rs2 off) = branched h (branch_taken op (register h rs1) (register h rs2)) (offset_by h.pc off)
-executed words h (instr.Load op rd rs1 imm) = loaded words h op rd (offset_by (register h rs1) imm)
-executed words h (instr.Store op rs1 rs2 imm) = saved words h op (offset_by (register h rs1) imm) (register h rs2)
-executed words h (instr.AluImm op rd rs1 imm) = computed h rd (alu_result op (register h rs1) (immediate imm))
-executed words h (instr.AluWImm op rd rs1 imm) = computed h rd (alu_w_result op (register h rs1) (immediate imm))
-executed words h (instr.Alu op rd rs1 rs2) = computed h rd (alu_result op (register h rs1) (register h rs2))
-executed words h (instr.AluW op rd rs1 rs2) = computed h rd (alu_w_result op (register h rs1) (register h rs2))
-executed words h (instr.Mul op rd rs1 rs2) = computed h rd (mul_result op (register h rs1) (register h rs2))
-executed words h (instr.Fence rd rs1 imm) = went (next_pc h)
-executed words h (instr.FenceI rd rs1 imm) = went (next_pc h)
-executed words h instr.Ecall = called h
-executed words h instr.Ebreak = unbuilt
-executed words h instr.Sret = unbuilt
-executed words h instr.Wfi = unbuilt
-executed words h (instr.SfenceVma rs1 rs2) = unbuilt
-executed words h (instr.Csr op rd csr src) = unbuilt
-executed words h (instr.LoadReserved wide aq rl rd rs1) = unbuilt
-executed words h (instr.StoreCond wide aq rl rd rs1 rs2) = unbuilt
-executed words h (instr.Amo op wide aq rl rd rs1 rs2) = unbuilt
-executed words h (instr.Illegal word) = unbuilt
+-- An instruction, of this word (unprivileged manual, chapters "RV32I", "RV64I", "Zifencei", "Zicsr", "M" and "A"; privileged manual
+-- for SRET, WFI and SFENCE.VMA). The fences do nothing.
+unfoldable pub executed : ℕ → ArchitecturalState → ℕ → List ℕ → ℕ → Instr → Asking Outcome
+executed words h now input word (instr.Lui rd imm) = went (computed h rd (upper imm))
+executed words h now input word (instr.Auipc rd imm) = went (computed h rd (add64 h.pc (upper imm)))
+executed words h now input word (instr.Jal rd off) = went (jumped h rd (offset_by h.pc off))
+executed words h now input word (instr.Jalr rd rs1 imm) = went (jumped h rd (even (offset_by (register h rs1) imm)))
+executed words h now input word (instr.Branch op rs1 rs2 off) = went (branched h (branch_taken op (register h rs1) (register h rs2)) (offset_by h.pc off))
+executed words h now input word (instr.Load op rd rs1 imm) = accessed words h (operation.Load op rd) (offset_by (register h rs1) imm)
+executed words h now input word (instr.Store op rs1 rs2 imm) = accessed words h (operation.Store op (register h rs2)) (offset_by (register h rs1) imm)
+executed words h now input word (instr.AluImm op rd rs1 imm) = went (computed h rd (alu_result op (register h rs1) (immediate imm)))
+executed words h now input word (instr.AluWImm op rd rs1 imm) = went (computed h rd (alu_w_result op (register h rs1) (immediate imm)))
+executed words h now input word (instr.Alu op rd rs1 rs2) = went (computed h rd (alu_result op (register h rs1) (register h rs2)))
+executed words h now input word (instr.AluW op rd rs1 rs2) = went (computed h rd (alu_w_result op (register h rs1) (register h rs2)))
+executed words h now input word (instr.Mul op rd rs1 rs2) = went (computed h rd (mul_result op (register h rs1) (register h rs2)))
+executed words h now input word (instr.Fence rd rs1 imm) = went (passed h)
+executed words h now input word (instr.FenceI rd rs1 imm) = went (passed h)
+executed words h now input word instr.Ecall = called words h input
+executed words h now input word instr.Ebreak = went (raised h exception.Breakpoint h.pc)
+executed words h now input word instr.Sret = went (trap_returned h word)
+executed words h now input word instr.Wfi = went (privileged h word)
+executed words h now input word (instr.SfenceVma rs1 rs2) = went (privileged h word)
+executed words h now input word (instr.Csr op rd csr src) = went (csr_done h now word op rd csr src)
+executed words h now input word (instr.LoadReserved wide aq rl rd rs1) = accessed words h (operation.LoadReserved wide rd) (register h rs1)
+executed words h now input word (instr.StoreCond wide aq rl rd rs1 rs2) = accessed words h (operation.StoreConditional wide rd (register h rs2)) (register h rs1)
+executed words h now input word (instr.Amo op wide aq rl rd rs1 rs2) = accessed words h (operation.Atomic op wide rd (register h rs2)) (register h rs1)
+executed words h now input word (instr.Illegal x) = went (illegal h word)
 
--- One turn of a hart, in step `now` and with this input: the word at the pc is fetched, and its instruction done.
+-- the instruction of a word
+unfoldable pub executed_word : ℕ → ArchitecturalState → ℕ → List ℕ → ℕ → Asking Outcome
+executed_word words h now input word = executed words h now input word (row word)
+
+-- the fetch of the word at the pc, once its place is known
+unfoldable pub fetched_at : ℕ → ArchitecturalState → ℕ → List ℕ → Location → Asking Outcome
+fetched_at words h now input (Refused cause) = went (trapped h cause h.pc)
+fetched_at words h now input (At physical) = do
+  value ← asked (word_of physical) UseKind.Fetch
+  executed_word words h now input (instruction_at h.pc value)
+
+-- a turn in which no interrupt is taken
+unfoldable pub instruction_turn : ℕ → ArchitecturalState → ℕ → List ℕ → Asking Outcome
+instruction_turn words h now input = do
+  location ← located words h Access.Fetch h.pc
+  fetched_at words h now input location
+
+-- a turn, by the interrupt that is taken; its stval is 0
+abbrev pub turn_by : Option ℕ → ℕ → ArchitecturalState → ℕ → List ℕ → Asking Outcome
+turn_by (Some cause) words h now input = went (trapped h cause 0)
+turn_by None words h now input = instruction_turn words h now input
+
+-- One turn of a hart, in step `now` and with this input: a pending interrupt is entered, or the instruction at the pc is
+-- fetched and done.
 unfoldable pub turn : ℕ → ArchitecturalState → ℕ → List ℕ → Asking Outcome
-turn words h now input =
-    if is_ram words h.pc then (do
-      value ← asked (word_of h.pc) UseKind.Fetch
-      executed words h (row (instruction_at h.pc value)))
-    else unbuilt
+turn words h now input = turn_by (pending_of h.csrs now h.mode) words h now input
 
 -- what the turn asks for next, or what it comes to, after these replies
 abbrev pub turn_after : ℕ → ArchitecturalState → ℕ → List ℕ → List ℕ → Asking Outcome
@@ -156,10 +150,6 @@ abbrev pub end_of : Option GuestStop → TurnEnd
 end_of None = ends.Went
 end_of (Some stop) = ends.Stop stop
 
--- a console that holds these bytes has room for those
-abbrev pub has_room : List ℕ → List ℕ → Bool
-has_room console bytes = nat_le (length bytes) (ROOM - length console)
-
 -- What a step makes of a turn that was played: where the console has room, the stores, the bytes and the state;
 -- else, and at poison, hart and console are as before, and nothing is stored.
 unfoldable pub finished : {B L : Type 0} → BusMeaning B → (L → Event → L) → ArchitecturalState → List ℕ → Played Outcome B L → Stepped B L
@@ -167,9 +157,18 @@ finished bus logged h console (Ended (End after stores bytes stop) b log) =
     if has_room console bytes
     then record { answer = end_of stop; hart = after; bus = (stored bus logged stores b log).0; log = (stored bus logged stores b log).1; console = console ++ bytes }
     else record { answer = ends.Stop ConsoleFull; hart = h; bus = b; log = log; console = console }
-finished bus logged h console (Ended Unbuilt b log) = record { answer = ends.NotBuilt; hart = h; bus = b; log = log; console = console }
 finished bus logged h console (Poisoned w use_kind b log) = record { answer = ends.Poisoned w use_kind; hart = h; bus = b; log = log; console = console }
 
 -- a step over a bus whose turn is this
 abbrev pub step_of : {B L : Type 0} → BusMeaning B → (L → Event → L) → Asking Outcome → ArchitecturalState → List ℕ → B → L → Stepped B L
 step_of bus logged m h console b log = finished bus logged h console (play bus logged m b log)
+
+-- the instruction touches the hart alone: neither memory nor the firmware
+abbrev pub IsAlone : Instr → Type 0
+IsAlone instr.Ecall = ⊥
+IsAlone (instr.Load op rd rs1 imm) = ⊥
+IsAlone (instr.Store op rs1 rs2 imm) = ⊥
+IsAlone (instr.LoadReserved wide aq rl rd rs1) = ⊥
+IsAlone (instr.StoreCond wide aq rl rd rs1 rs2) = ⊥
+IsAlone (instr.Amo op wide aq rl rd rs1 rs2) = ⊥
+IsAlone _ = Unit {0}

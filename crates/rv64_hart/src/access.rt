@@ -1,10 +1,13 @@
 //! Words of RAM, and the bytes of them that loads and stores take (unprivileged manual, "Load and Store Instructions").
 
-ghost use Rattle.std.specs.Prelude.{◌≡◌, true, Some, None, if◌then◌else◌};
-ghost use Rattle.rv64_hart.specs.Access.{is_ram, is_aligned, is_allowed, word_of, instruction_at, load_result, store_mask, store_value, first_bit, load_width, store_width};
+ghost use Rattle.std.specs.Prelude.{◌≡◌, ◌<◌, true, Some, None, if◌then◌else◌};
+ghost use Rattle.rv64_hart.specs.Access.{is_ram, is_aligned, word_of, instruction_at, load_result, store_mask, store_value, first_bit, load_width, store_width};
 
 use ras_bits::{get_field, sext};
 use rv64_decode::{LoadOp, StoreOp};
+
+/// The physical address of RAM's first byte.
+pub(crate) const RAM_START: u64 = 0x8000_0000;
 
 /// How many bytes an access takes: 1, 2, 4 or 8.
 #[derive(Clone, Copy)]
@@ -39,7 +42,7 @@ impl Width {
     }
 
     /// Whether an address is a multiple of the width.
-    fn divides(self, address: u64) -> bool
+    pub(crate) fn divides(self, address: u64) -> bool
         ensures { result ≡ is_aligned self address }
     {
         match self {
@@ -51,27 +54,28 @@ impl Width {
     }
 }
 
+/// Whether the byte at an address is in RAM.
+pub(crate) fn is_ram(words: u32, address: u64) -> bool
+    ensures { result ≡ is_ram words address }
+{
+    address >= RAM_START && (address - RAM_START) / 8 < u64::from(words)
+}
+
 /// The word of an address in RAM.
+pub(crate) fn word_index(words: u32, address: u64) -> u32
+    requires { is_ram words address ≡ true }
+    ensures word { result ≡ word_of address }
+    ensures there { result < words }
+{
+    ((address - RAM_START) / 8) as u32
+}
+
+/// The word of an address, where it is in RAM.
 pub(crate) fn ram_word(words: u32, address: u64) -> Option<u32>
     ensures { result ≡ (if is_ram words address then Some (word_of address) else None) }
 {
-    if address < 0x8000_0000 {
-        return None;
-    }
-    let w = (address - 0x8000_0000) / 8;
-    if w < words as u64 {
-        Some(w as u32)
-    } else {
-        None
-    }
-}
-
-/// The word that an access goes to, where it is aligned and in RAM.
-pub(crate) fn accessed(words: u32, width: Width, address: u64) -> Option<u32>
-    ensures { result ≡ (if is_allowed words width address then Some (word_of address) else None) }
-{
-    if width.divides(address) {
-        ram_word(words, address)
+    if is_ram(words, address) {
+        Some(word_index(words, address))
     } else {
         None
     }

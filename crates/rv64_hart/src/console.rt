@@ -1,6 +1,7 @@
 //! The bytes that a program has written.
 
-ghost use Rattle.std.specs.Prelude.{◌≡◌, ◌+◌, ◌≤◌, ◌++◌, [], length, IfOk};
+ghost use Rattle.std.specs.Prelude.{◌≡◌, ◌+◌, ◌≤◌, ◌++◌, [], length, IfOk, if◌then◌else◌};
+ghost use Rattle.rv64_hart.specs.Outcome.{has_room, console_room};
 
 use ras_bits::NoMemory;
 use std::alloc::Global;
@@ -46,16 +47,28 @@ impl Console {
 
     /// How many bytes still fit.
     pub fn room(&self) -> usize
-        ensures { result + length self.now ≡ ROOM }
+        ensures { result + length self.now ≡ console_room }
     {
         ROOM - self.written.len()
     }
 
     /// Writes bytes behind the others. They fit.
     pub fn push(&mut self, b: &[u8])
-        requires { length self.old + length b.now ≤ ROOM }
+        requires { length self.old + length b.now ≤ console_room }
         ensures { self.new ≡ self.old ++ b.now }
     {
         let _ = self.written.extend_from_slice(b);
+    }
+
+    /// Writes bytes behind the others. False, and nothing changes, exactly where they don't fit.
+    pub(crate) fn write(&mut self, b: &[u8]) -> bool
+        ensures fits { result ≡ has_room self.old b.now }
+        ensures after { self.new ≡ (if has_room self.old b.now then self.old ++ b.now else self.old) }
+    {
+        if self.room() < b.len() {
+            return false;
+        }
+        self.push(b);
+        true
     }
 }

@@ -6,15 +6,23 @@
 
 mod access;
 mod console;
+mod console_calls;
 mod ends;
+mod firmware;
 mod hart;
 mod jumps;
+mod locate;
 mod memory;
 mod operands;
+mod operation;
+mod parts;
+mod reservation;
 mod step;
+mod system;
+mod traps;
 
 pub use console::Console;
-pub use ends::{GuestStop, TurnEnd};
+pub use ends::TurnEnd;
 pub use hart::Hart;
 
 #[cfg(test)]
