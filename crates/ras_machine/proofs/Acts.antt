@@ -1,8 +1,7 @@
 -- The acts of a step keep what the memory stands for, unless one of them is a third flip.
-use Rattle.std.proofs.Common.{ℕ, ◌+◌, ◌≡◌, ◌≤◌, ◌<◌, Bool, true, false, List, [], ◌∷◌, Option, Some, None, length, refl, ◌∙◌, arith, cond, slice_index}
-use Rattle.std.specs.Prelude.{◌==◌, if◌then◌else◌}
+use Rattle.std.proofs.Common.{ℕ, ◌+◌, ◌≡◌, ◌≤◌, ◌<◌, Bool, true, false, List, [], ◌∷◌, Option, Some, None, length, refl, ◌∙◌, arith, cond}
+use Rattle.std.specs.Prelude.{if◌then◌else◌}
 use Rattle.std.specs.List.{AllByRecursion}
-use Rattle.std.proofs.lemmas.Bool.Decides.{nat_tests}
 use Rattle.poison_mem.specs.declared.event.Event.{Event}
 use Rattle.poison_mem.specs.Bus.{BusMeaning}
 use Rattle.poison_mem.specs.Flips.{FlipMeaning, FlipsKeepWords, IsFaithful, raised_at}
@@ -14,7 +13,7 @@ use Rattle.ras_machine.specs.declared.protected.Protected.{Protected}
 use Rattle.ras_machine.specs.Machine.{or_else, act_done, acts_done}
 use Rattle.ras_machine.specs.Since.{is_flip_of}
 use Rattle.ras_machine.specs.TwoRuns.{StandsFor}
-use Rattle.ras_machine.proofs.Counting.{flips_of, count-cons}
+use Rattle.ras_machine.proofs.Counting.{flips_of, count-cons, raised_most}
 
 first_none : {X : Type 0} (a b : Option X) → or_else a b ≡ None → a ≡ None
 first_none None b h = refl
@@ -24,19 +23,6 @@ second_none : {X : Type 0} (a : Option X) (b : Bool) (x : X) → or_else a (if b
 second_none None true x h = cc
 second_none None false x h = refl
 second_none (Some y) b x h = cc
-
--- a third flip comes only where two were counted
-pub record CountsFlips {B : Type 0} (bus : BusMeaning B) (flips : FlipMeaning B) (stands : B → (ℕ → ℕ) → (ℕ → ℕ) → Type 0) : Type 0 where
-  pub third : (b : B) (w : ℕ) (f q : ℕ → ℕ) → w < bus.words b → stands b f q → flips.is_third b w ≡ true → 2 ≤ q w
-
-no_third : (b : Bool) → (b ≡ true → ⊥) → b ≡ false
-no_third true never = absurd (never refl)
-no_third false never = refl
-
-none_yet : {X : Type 0} (a : Option X) (b : Bool) (x : X) → a ≡ None → b ≡ false → or_else a (if b then Some x else None) ≡ None
-none_yet None true x is not_third = cc
-none_yet None false x is not_third = refl
-none_yet (Some y) b x is not_third = cc
 
 module _ {B L : Type 0} (bus : BusMeaning B) (flips : FlipMeaning B) (logged : L → Event → L) (stands : B → (ℕ → ℕ) → (ℕ → ℕ) → Type 0) where
   act_none : (n : ℕ) (act : Act) (p : Protected B L) → (act_done flips logged n act p).beyond ≡ None → p.beyond ≡ None
@@ -52,14 +38,11 @@ module _ {B L : Type 0} (bus : BusMeaning B) (flips : FlipMeaning B) (logged : L
   pub more_flips : IsFaithful bus flips stands → (ram : List ℕ) (q r : ℕ → ℕ) (b : B) → ((w : ℕ) → q w ≤ r w) → StandsFor bus stands ram q b → StandsFor bus stands ram r b
   more_flips faithful ram q r b up it = record { words = it.words; each = faithful.same b _ _ q r it.each (λ w inside. refl) (λ w inside. up w) }
 
-  raised : (q : ℕ → ℕ) (u w : ℕ) → raised_at q u w ≤ q w + cond (u == w) 1 0
-  raised q u w = grind (arith, nat_tests)
-
   act_stands : FlipsKeepWords bus flips → IsFaithful bus flips stands → (n : ℕ) (act : Act) (ram : List ℕ) (q : ℕ → ℕ) (p : Protected B L) → FitsRamAct (length ram) act → (act_done flips logged n act p).beyond ≡ None
       → StandsFor bus stands ram q p.memory → StandsFor bus stands ram (λ w. q w + cond (is_flip_of w act) 1 0) (act_done flips logged n act p).memory
   act_stands keeps faithful n (Flip u bit) ram q p fits none it =
       let inside : u < bus.words p.memory = let same = it.words in let there = fits.0 in omega arith in
-      more_flips faithful ram (raised_at q u) _ _ (λ w. raised q u w)
+      more_flips faithful ram (raised_at q u) _ _ (λ w. raised_most q u w)
       (record {
         words = keeps.strike p.memory u bit ∙ it.words;
         each = faithful.strike_keeps p.memory u bit _ q inside (let high = fits.1 in omega arith) (second_none p.beyond (flips.is_third p.memory u) (n, u) none) it.each;
@@ -78,22 +61,3 @@ module _ {B L : Type 0} (bus : BusMeaning B) (flips : FlipMeaning B) (logged : L
       let here = act_stands keeps faithful n line.act ram q p fits.0.1 (acts_none n lines (act_done flips logged n line.act p) none) it in
       more_flips faithful ram _ _ _ (λ w. let all = count-cons (λ line. is_flip_of w line.act) line lines in omega arith)
       (acts_stand keeps faithful n lines ram (λ w. q w + cond (is_flip_of w line.act) 1 0) (act_done flips logged n line.act p) fits.1 none here)
-
-  act_clear : CountsFlips bus flips stands → (n : ℕ) (act : Act) (ram : List ℕ) (q : ℕ → ℕ) (p : Protected B L) → FitsRamAct (length ram) act → ((w : ℕ) → q w ≤ 1)
-      → StandsFor bus stands ram q p.memory → p.beyond ≡ None → (act_done flips logged n act p).beyond ≡ None
-  act_clear counts n (Flip u bit) ram q p fits few it none =
-      let inside : u < bus.words p.memory = let same = it.words in let there = fits.0 in omega arith in
-      none_yet p.beyond (flips.is_third p.memory u) (n, u) none
-      (no_third (flips.is_third p.memory u) (λ third. let two = counts.third p.memory u (slice_index ram) q inside it.each third in let one = few u in omega arith))
-  act_clear counts n (Scrub u) ram q p fits few it none = none
-
-  -- the acts of a step are no third flips where each word takes at most one flip
-  pub acts_clear : FlipsKeepWords bus flips → IsFaithful bus flips stands → CountsFlips bus flips stands → (n : ℕ) (lines : List ScriptLine) (ram : List ℕ) (q : ℕ → ℕ) (p : Protected B L)
-      → AllByRecursion (FitsRam (length ram)) lines → ((w : ℕ) → q w + flips_of w lines ≤ 1)
-      → StandsFor bus stands ram q p.memory → p.beyond ≡ None → (acts_done flips logged n lines p).beyond ≡ None
-  acts_clear keeps faithful counts n [] ram q p fits few it none = none
-  acts_clear keeps faithful counts n (line ∷ lines) ram q p fits few it none =
-      let clear : (act_done flips logged n line.act p).beyond ≡ None = act_clear counts n line.act ram q p fits.0.1 (λ w. let all = few w in omega arith) it none in
-      acts_clear keeps faithful counts n lines ram (λ w. q w + cond (is_flip_of w line.act) 1 0) (act_done flips logged n line.act p) fits.1
-      (λ w. let all = few w in let cut = count-cons (λ line. is_flip_of w line.act) line lines in omega arith)
-      (act_stands keeps faithful n line.act ram q p fits.0.1 clear it) clear

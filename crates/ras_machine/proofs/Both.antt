@@ -10,7 +10,7 @@ use Rattle.fault_script.specs.declared.lines.ScriptLine.{ScriptLine}
 use Rattle.fault_script.specs.Fits.{FitsRam}
 use Rattle.fault_script.specs.Steps.{at_step}
 use Rattle.rv64_hart.specs.Turn.{Stepped, turn, step_of}
-use Rattle.rv64_hart.specs.Within.{turn_within}
+use Rattle.rv64_hart.specs.Bound.{turn_within}
 use Rattle.ras_machine.specs.declared.ending.Ending.{Ending}
 use Rattle.ras_machine.specs.declared.ending.Stop.TheVariants as stops
 use Rattle.ras_machine.specs.declared.protected.Protected.{Protected}
@@ -22,7 +22,7 @@ use Rattle.ras_machine.specs.Ends.{ending_of}
 use Rattle.ras_machine.specs.Since.{stores_in, stores_whole, step_after, last_whole_store, since, since_before, FlipsEachOnce}
 use Rattle.ras_machine.specs.TwoRuns.{FirstWay, AsksFor, GoesOn, StandsFor, InStep, SecondWay, Ways, EndsEitherWay}
 use Rattle.ras_machine.proofs.Counting.{flips_of, since_adds, since_begins, between_all}
-use Rattle.ras_machine.proofs.Acts.{CountsFlips, acts_none, acts_stand, acts_clear, more_flips}
+use Rattle.ras_machine.proofs.Acts.{acts_none, acts_stand, more_flips}
 use Rattle.ras_machine.proofs.FlatRuns.{after-length, after_next, goes_on_more, run_ends, run_spent}
 use Rattle.ras_machine.proofs.Turns.{StepsAlike, both_step, consumes, step_alike}
 
@@ -34,6 +34,11 @@ some_fit P p (line ∷ lines) all = by_test (p line) (some_fit P p lines all.1)
     by_test : (b : Bool) → AllByRecursion P (filter p lines) → AllByRecursion P (cond b (line ∷ filter p lines) (filter p lines))
     by_test true rest = (all.0, rest)
     by_test false rest = rest
+
+-- a step that goes on is completed
+pub counted : (e : Option Ending) (n : ℕ) → e ≡ None → steps_completed e n ≡ n + 1
+counted None n is = refl
+counted (Some e) n is = cc
 
 module _ {B L : Type 0} (bus : BusMeaning B) (flips : FlipMeaning B) (logged : L → Event → L) (stands : B → (ℕ → ℕ) → (ℕ → ℕ) → Type 0)
     (input : List ℕ) (start : FlatState) (script : List ScriptLine) (budget : ℕ) where
@@ -139,10 +144,6 @@ module _ {B L : Type 0} (bus : BusMeaning B) (flips : FlipMeaning B) (logged : L
       acts_none bus flips logged stands s.steps (at_step s.steps script) s.protected
       (ended_none (machine_move bus flips logged input script s).ending (machine_move bus flips logged input script s).after _ (run_none left (machine_move bus flips logged input script s).after) none)
 
-  counted : (e : Option Ending) (n : ℕ) → e ≡ None → steps_completed e n ≡ n + 1
-  counted None n is = refl
-  counted (Some e) n is = cc
-
   by_ending : (left n : ℕ) (e : Option Ending) (after : MachineState B L)
       → (e ≡ None → InStep bus stands input start script after → (machine_run bus flips logged input script left after).after.protected.beyond ≡ None
       → Ways bus stands input start script budget (Some (machine_run bus flips logged input script left after).ending) (machine_run bus flips logged input script left after).after)
@@ -174,42 +175,6 @@ module _ {B L : Type 0} (bus : BusMeaning B) (flips : FlipMeaning B) (logged : L
       (move_ways keeps fkeeps faithful s fit (omega arith) it
       (ended_none move.ending move.after (machine_run bus flips logged input script left move.after) (run_none left move.after) none))
       none
-
-  few_before : FlipsEachOnce script → (n w : ℕ) → since_before input start script n w + flips_of w (at_step n script) ≤ 1
-  few_before once n w =
-      let all = once.each w in
-      let adds = since_adds input start script n w in
-      let fewer = between_all script w (step_after (last_whole_store input start w n)) (n + 1) in
-      omega arith
-
-  -- where no two lines flip the same word, a step makes no third flip
-  pub move_clear : FlipsKeepWords bus flips → IsFaithful bus flips stands → CountsFlips bus flips stands → FlipsEachOnce script → (s : MachineState B L)
-      → AllByRecursion (FitsRam (length start.ram)) script → InStep bus stands input start script s → s.protected.beyond ≡ None
-      → (machine_move bus flips logged input script s).after.protected.beyond ≡ None
-  move_clear fkeeps faithful counts once s fit it none =
-      acts_clear bus flips logged stands fkeeps faithful counts s.steps (at_step s.steps script) (flat_after input start s.steps).ram (since_before input start script s.steps) s.protected
-      (some_fit (FitsRam (length (flat_after input start s.steps).ram)) _ script (subst (λ words. AllByRecursion (FitsRam words) script) (sym (after-length input start s.steps)) fit))
-      (λ w. few_before once s.steps w) it.memory none
-
-  clear_by_ending : (left : ℕ) (e : Option Ending) (after : MachineState B L)
-      → (e ≡ None → InStep bus stands input start script after → (machine_run bus flips logged input script left after).after.protected.beyond ≡ None)
-      → Ways bus stands input start script budget e after → after.protected.beyond ≡ None
-      → (ended_or e after (machine_run bus flips logged input script left after)).after.protected.beyond ≡ None
-  clear_by_ending left None after more ways none = more refl ways
-  clear_by_ending left (Some e) after more ways none = none
-
-  -- nor does a run
-  pub run_clear : KeepsWords bus → FlipsKeepWords bus flips → IsFaithful bus flips stands → CountsFlips bus flips stands → FlipsEachOnce script → (left : ℕ) (s : MachineState B L)
-      → AllByRecursion (FitsRam (length start.ram)) script → budget ≡ s.steps + left → InStep bus stands input start script s → s.protected.beyond ≡ None
-      → (machine_run bus flips logged input script left s).after.protected.beyond ≡ None
-  unfolding machine_run
-  run_clear keeps fkeeps faithful counts once zero s fit all it none = none
-  run_clear keeps fkeeps faithful counts once (suc left) s fit all it none =
-      let move = machine_move bus flips logged input script s in
-      let clear : move.after.protected.beyond ≡ None = move_clear fkeeps faithful counts once s fit it none in
-      clear_by_ending left move.ending move.after
-      (λ is there. run_clear keeps fkeeps faithful counts once left move.after fit (let e = counted move.ending s.steps is in omega arith) there clear)
-      (move_ways keeps fkeeps faithful s fit (omega arith) it clear) clear
 
   -- where no two lines flip the same word, there is no second way
   pub only_first : FlipsEachOnce script → (ending : Ending) (s : MachineState B L) → EndsEitherWay input start script budget ending s → FirstWay (flat_run input budget 0 start) ending s

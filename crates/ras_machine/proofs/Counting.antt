@@ -3,6 +3,7 @@ use Rattle.std.proofs.Common.{ℕ, zero, suc, ◌+◌, ◌≡◌, ◌≤◌, Boo
 use Rattle.std.specs.Prelude.{◌==◌, nat_le, nat_lt, count_by, if◌then◌else◌}
 use Rattle.std.proofs.lemmas.Bool.Decides.{nat_tests}
 use Rattle.std.proofs.lemmas.List.Sums.{sum_by-cons}
+use Rattle.poison_mem.specs.Flips.{raised_at}
 use Rattle.fault_script.specs.declared.lines.ScriptLine.{ScriptLine}
 use Rattle.fault_script.specs.Steps.{at_step}
 use Rattle.ras_machine.specs.Flat.{FlatState, flat_after}
@@ -80,11 +81,6 @@ since_begins input start script n w =
     ap (λ m. flips_between script w (step_after (last_whole_store input start w (suc n))) m) (sym (add-one n))
     ∙ begun_by (stores_whole w (stores_in input n (flat_after input start n))) (last_whole_store input start w n) script w n
 
--- before step 0 no flip is counted
-pub since_starts : (input : List ℕ) (start : FlatState) (script : List ScriptLine) (w : ℕ) → since_before input start script 0 w ≡ 0
-unfolding last_whole_store
-since_starts input start script w = none_between script w 0
-
 fewer_one : (flips within : Bool) → cond {A = ℕ} (flips && within) 1 0 ≤ cond flips 1 0
 fewer_one true true = omega arith
 fewer_one true false = omega arith
@@ -99,3 +95,7 @@ between_all (line ∷ script) w from to =
     let between = count-cons (λ line. is_flip_of w line.act && (nat_le from line.step && nat_lt line.step to)) line script in
     let all = count-cons (λ line. is_flip_of w line.act) line script in
     omega arith
+
+-- one flip more at a word, as a flip of that word
+pub raised_most : (q : ℕ → ℕ) (u w : ℕ) → raised_at q u w ≤ q w + cond (u == w) 1 0
+raised_most q u w = grind (arith, nat_tests)

@@ -4,7 +4,8 @@ use Rattle.std.specs.Prelude.{if◌then◌else◌}
 use Rattle.std.proofs.lemmas.Bool.{cases_lt}
 use Rattle.std.proofs.Math.ListN.{length-set}
 use Rattle.poison_mem.specs.Merge.{merged_value}
-use Rattle.rv64_hart.specs.Turn.{Outcome, End, Unbuilt, Store, turn, has_room}
+use Rattle.rv64_hart.specs.Outcome.{Outcome, End, Store, has_room}
+use Rattle.rv64_hart.specs.Turn.{turn}
 use Rattle.ras_machine.specs.declared.ending.Ending.{Ending}
 use Rattle.ras_machine.specs.declared.ending.Stop.TheVariants as stops
 use Rattle.ras_machine.specs.Runs.{ended_or}
@@ -25,7 +26,6 @@ outcome-length n s (End after stores bytes stop) = either (has_room s.console by
     either : (fits : Bool) (m m' : FlatMove) → length m.after.ram ≡ length s.ram → length m'.after.ram ≡ length s.ram → length (if fits then m else m').after.ram ≡ length s.ram
     either true m m' fits_here full = fits_here
     either false m m' fits_here full = full
-outcome-length n s Unbuilt = refl
 
 -- the RAM keeps its words
 pub after-length : (input : List ℕ) (start : FlatState) (n : ℕ) → length (flat_after input start n).ram ≡ length start.ram

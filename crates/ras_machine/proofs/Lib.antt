@@ -1,10 +1,11 @@
-pub mod Images
+pub mod Filled
 pub mod Steps
 pub mod Counting
 pub mod Acts
 pub mod Turns
 pub mod FlatRuns
 pub mod Both
+pub mod Counts
 pub mod Places
 pub mod Runs
 pub mod Machines

@@ -4,12 +4,13 @@ use Rattle.poison_mem.specs.Asking.{Asking, Answer, Ask, Ended, play}
 use Rattle.poison_mem.specs.Flat.{flat_meaning}
 use Rattle.poison_mem.specs.Merge.{merged_value}
 use Rattle.poison_mem.specs.declared.cell.UseKind.{UseKind}
-use Rattle.rv64_hart.specs.Turn.{Outcome, End, Unbuilt, Store, Stepped, turn, stored, finished, step_of, has_room, end_of}
+use Rattle.rv64_hart.specs.Outcome.{Outcome, End, Store, has_room}
+use Rattle.rv64_hart.specs.Turn.{Stepped, turn, stored, finished, step_of, end_of}
 use Rattle.rv64_hart.specs.Laws.{ended_by}
 use Rattle.rv64_hart.specs.State.{ArchitecturalState}
-use Rattle.rv64_hart.specs.declared.ends.GuestStop.{GuestStop}
+use Rattle.sbi_calls.specs.declared.stop.GuestStop.{GuestStop}
 use Rattle.rv64_hart.specs.declared.ends.TurnEnd.{TurnEnd}
-use Rattle.rv64_hart.specs.declared.ends.TurnEnd.TheVariants.{Went, Stop, Poisoned, NotBuilt}
+use Rattle.rv64_hart.specs.declared.ends.TurnEnd.TheVariants.{Went, Stop, Poisoned}
 use Rattle.ras_machine.specs.declared.ending.Ending.{Ending}
 use Rattle.ras_machine.specs.declared.ending.Stop.TheVariants as stops
 use Rattle.ras_machine.specs.Flat.{FlatState, FlatMove, answered, ram_after, flat_outcome, flat_step, flat_run}
@@ -33,7 +34,6 @@ abbrev pub ending_by : TurnEnd → ℕ → Option Ending
 ending_by Went n = None
 ending_by (Stop stop) n = Some (guest_ending stop n)
 ending_by (Poisoned w use_kind) n = None
-ending_by NotBuilt n = Some (record { stop = stops.NotBuilt; steps = n })
 
 -- a step over plain words as a move of the flat machine
 abbrev pub move_of : {L : Type 0} → ℕ → Stepped (List ℕ) L → FlatMove
@@ -63,7 +63,6 @@ outcome_move : {L : Type 0} (logged : L → Event → L) (n : ℕ) (s : FlatStat
     → flat_outcome n s outcome ≡ move_of n (finished flat_meaning logged s.hart s.console (Ended outcome s.ram log))
 unfolding flat_outcome finished end_move
 outcome_move logged n s log (End after stores bytes stop) = end_moves logged n s log after stores bytes stop (has_room s.console bytes)
-outcome_move logged n s log Unbuilt = refl
 
 -- a step over plain words is a step of the flat machine
 pub step_moves : {L : Type 0} (logged : L → Event → L) (input : List ℕ) (n : ℕ) (s : FlatState) (log : L) (t : Stepped (List ℕ) L)
@@ -85,7 +84,6 @@ outcome_unpoisoned : {L : Type 0} (logged : L → Event → L) (h : Architectura
 unfolding finished
 outcome_unpoisoned logged h console (End after stores bytes stop) ram log w use_kind is =
     end_unpoisoned logged h console after stores bytes stop ram log (has_room console bytes) w use_kind is
-outcome_unpoisoned logged h console Unbuilt ram log w use_kind is = cc
 
 -- a step over plain words meets no poison
 pub never_poisoned : {L : Type 0} (logged : L → Event → L) (m : Asking Outcome) (h : ArchitecturalState) (console ram : List ℕ) (log : L) (t : Stepped (List ℕ) L) (w : ℕ) (use_kind : UseKind)

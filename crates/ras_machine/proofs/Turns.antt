@@ -14,10 +14,11 @@ use Rattle.poison_mem.specs.Bus.{BusMeaning, KeepsWords, logged_all}
 use Rattle.poison_mem.specs.Flips.{FlipMeaning, IsFaithful, Shows, stored_at, renewed_at}
 use Rattle.poison_mem.specs.Merge.{merged_value}
 use Rattle.poison_mem.specs.Showing.{stored_at-same, stored_at-other}
-use Rattle.rv64_hart.specs.Turn.{Outcome, End, Unbuilt, Store, Stepped, stored, finished, step_of, has_room, end_of}
+use Rattle.rv64_hart.specs.Outcome.{Outcome, End, Store, has_room}
+use Rattle.rv64_hart.specs.Turn.{Stepped, stored, finished, step_of, end_of}
 use Rattle.rv64_hart.specs.Laws.{ended_by}
 use Rattle.rv64_hart.specs.Within.{StoresWithin, OutcomeWithin}
-use Rattle.rv64_hart.specs.declared.ends.GuestStop.{GuestStop}
+use Rattle.sbi_calls.specs.declared.stop.GuestStop.{GuestStop}
 use Rattle.rv64_hart.specs.declared.ends.TurnEnd.TheVariants as ends
 use Rattle.ras_machine.specs.declared.ending.Stop.TheVariants as stops
 use Rattle.ras_machine.specs.Flat.{FlatState, FlatMove, answered, ram_after, flat_outcome}
@@ -130,7 +131,6 @@ module _ {B L : Type 0} (bus : BusMeaning B) (flips : FlipMeaning B) (logged : L
           else record { after = s; ending = Some (record { stop = stops.ConsoleFull; steps = n }) })
       by_room true = both_step (λ pc. same_end stop n pc) refl refl (stores_stand keeps faithful stores s.ram q b log it within)
       by_room false = both_step (λ pc. refl) refl refl it
-  finish_alike keeps faithful n s q m Unbuilt b log it within = both_step (λ pc. refl) refl refl it
 
   -- a step over both
   pub step_alike : KeepsWords bus → IsFaithful bus flips stands → (n : ℕ) (s : FlatState) (q : ℕ → ℕ) (m : Asking Outcome) (most : ℕ) (b : B) (log : L)

@@ -1,8 +1,8 @@
 -- The endings that steps bring.
 use Rattle.std.specs.Prelude.{ℕ, ◌+◌, Option, Some, None}
-use Rattle.rv64_hart.specs.declared.ends.GuestStop.{GuestStop}
+use Rattle.sbi_calls.specs.declared.stop.GuestStop.{GuestStop}
 use Rattle.rv64_hart.specs.declared.ends.TurnEnd.{TurnEnd}
-use Rattle.rv64_hart.specs.declared.ends.TurnEnd.TheVariants.{Went, Stop, Poisoned, NotBuilt}
+use Rattle.rv64_hart.specs.declared.ends.TurnEnd.TheVariants.{Went, Stop, Poisoned}
 use Rattle.ras_machine.specs.declared.ending.Stop.TheVariants as stops
 use Rattle.ras_machine.specs.declared.ending.Ending.{Ending}
 
@@ -21,4 +21,3 @@ abbrev pub ending_of : TurnEnd → ℕ → ℕ → Option Ending
 ending_of Went n pc = None
 ending_of (Stop stop) n pc = Some (guest_ending stop n)
 ending_of (Poisoned w use_kind) n pc = Some (record { stop = stops.Consumed w use_kind pc; steps = n })
-ending_of NotBuilt n pc = Some (record { stop = stops.NotBuilt; steps = n })

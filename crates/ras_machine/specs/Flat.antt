@@ -2,12 +2,12 @@
 use Rattle.std.specs.Prelude.{ℕ, zero, suc, ◌+◌, List, [], ◌∷◌, ◌++◌, Option, Some, None, length, slice_index, slice_set, if◌then◌else◌}
 use Rattle.poison_mem.specs.Asking.{Asking, Answer, Ask}
 use Rattle.poison_mem.specs.Merge.{merged_value}
+use Rattle.elf_load.specs.Program.{Program}
 use Rattle.rv64_hart.specs.State.{ArchitecturalState, reset}
-use Rattle.rv64_hart.specs.Turn.{Outcome, End, Unbuilt, Store, turn, has_room}
+use Rattle.rv64_hart.specs.Outcome.{Outcome, End, Store, has_room}
+use Rattle.rv64_hart.specs.Turn.{turn}
 use Rattle.ras_machine.specs.declared.ending.Stop.TheVariants as stops
 use Rattle.ras_machine.specs.declared.ending.Ending.{Ending}
-use Rattle.ras_machine.specs.declared.flat.TheConstants.{RAM_START, RAM_WORDS}
-use Rattle.ras_machine.specs.Image.{ram_of}
 use Rattle.ras_machine.specs.Ends.{guest_ends}
 use Rattle.ras_machine.specs.Runs.{Move, Run, ended_or}
 
@@ -17,9 +17,9 @@ pub record FlatState : Type 0 where
   pub ram : List ℕ
   pub console : List ℕ
 
--- the state that an image starts in: hart 0 enters it at the start of RAM, and the console is empty
-abbrev pub flat_start : List ℕ → FlatState
-flat_start image = record { hart = reset 0 RAM_START; ram = ram_of RAM_WORDS image; console = [] }
+-- the state that an image starts in: hart 0 enters it, the RAM has its words, and the console is empty
+abbrev pub flat_start : Program → FlatState
+flat_start image = record { hart = reset 0 image.entry; ram = image.words; console = [] }
 
 -- what a computation answers where the RAM answers its asks
 abbrev pub answered : {X : Type 0} → List ℕ → Asking X → X
@@ -41,7 +41,6 @@ flat_outcome n s (End after stores bytes stop) =
     if has_room s.console bytes
     then record { after = record { hart = after; ram = ram_after s.ram stores; console = s.console ++ bytes }; ending = guest_ends stop n }
     else record { after = s; ending = Some (record { stop = stops.ConsoleFull; steps = n }) }
-flat_outcome n s Unbuilt = record { after = s; ending = Some (record { stop = stops.NotBuilt; steps = n }) }
 
 -- step n with this input: the RAM answers each ask of the turn
 abbrev pub flat_step : List ℕ → ℕ → FlatState → FlatMove
@@ -69,7 +68,7 @@ pub record FlatMachine : Type 0 where
   pub ended : Option Ending
 
 -- the machine of an image that has not run
-abbrev pub flat_made : List ℕ → ℕ → FlatMachine
+abbrev pub flat_made : Program → ℕ → FlatMachine
 flat_made image budget = record { state = flat_start image; budget = budget; ended = None }
 
 -- the whole run of a machine that has not run

@@ -1,4 +1,4 @@
-pub mod Image
+pub mod Settings
 pub mod Ends
 pub mod Runs
 pub mod Flat

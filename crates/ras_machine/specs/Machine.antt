@@ -1,11 +1,10 @@
 -- The machine whose memory takes faults: its state, its steps, and its run.
-use Rattle.std.specs.Prelude.{ℕ, zero, suc, ◌+◌, ◌-◌, ◌^◌, ◌==◌, List, [], ◌∷◌, map, min, Option, Some, None, if◌then◌else◌}
+use Rattle.std.specs.Prelude.{ℕ, zero, suc, ◌+◌, ◌-◌, ◌^◌, ◌==◌, List, [], ◌∷◌, min, Option, Some, None, if◌then◌else◌}
 use Rattle.poison_mem.specs.declared.event.Event.{Event}
-use Rattle.poison_mem.specs.declared.cell.CellState.{CellState}
 use Rattle.poison_mem.specs.Bus.{BusMeaning, logged_all}
 use Rattle.poison_mem.specs.Flips.{FlipMeaning}
-use Rattle.ecc_memory.specs.Word.{made}
-use Rattle.ecc_memory.specs.Memory.{memory_meaning, memory_flips}
+use Rattle.elf_load.specs.Program.{Program}
+use Rattle.mem_stack.specs.Stack.{StackLines, stack_meaning, stack_flips, loaded_stack}
 use Rattle.fault_script.specs.declared.lines.Act.{Act}
 use Rattle.fault_script.specs.declared.lines.Act.TheVariants.{Flip, Scrub}
 use Rattle.fault_script.specs.declared.lines.ScriptLine.{ScriptLine}
@@ -16,8 +15,7 @@ use Rattle.ras_machine.specs.declared.ending.Stop.TheVariants as stops
 use Rattle.ras_machine.specs.declared.ending.Ending.{Ending}
 use Rattle.ras_machine.specs.declared.protected.Protected.{Protected}
 use Rattle.ras_machine.specs.declared.state.MachineState.{MachineState}
-use Rattle.ras_machine.specs.declared.flat.TheConstants.{RAM_START, RAM_WORDS}
-use Rattle.ras_machine.specs.Image.{ram_of}
+use Rattle.ras_machine.specs.declared.settings.Settings.{Settings}
 use Rattle.ras_machine.specs.Runs.{Move, Run, ended_or}
 use Rattle.ras_machine.specs.Ends.{ending_of}
 
@@ -85,44 +83,52 @@ machine_run bus flips logged input script (suc left) s =
 abbrev pub event_counted : ℕ → Event → ℕ
 event_counted count event = min (count + 1) (2 ^ 64 - 1)
 
--- the machine over a memory of codewords: its state, its budget, and its ending once it has one
-pub record EccMachine : Type 0 where
-  pub state : MachineState (List CellState) ℕ
-  pub budget : ℕ
+-- what the machine over the stack keeps between two steps
+abbrev pub StackState : Type 0
+StackState = MachineState StackLines ℕ
+
+-- the machine over the stack: its state, its settings, and its ending once it has one
+pub record StackMachine : Type 0 where
+  pub state : StackState
+  pub settings : Settings
   pub ended : Option Ending
 
--- the machine of an image that has not run: each word of RAM is the codeword of the image's
-abbrev pub machine_made : List ℕ → ℕ → EccMachine
-machine_made image budget =
+-- the machine of an image that has not run: each word of memory is the codeword of the image's, and no cache holds a line
+abbrev pub machine_made : Program → Settings → StackMachine
+machine_made image settings =
     record {
       state = record {
-        hart = reset 0 RAM_START;
-        protected = record { memory = map made (ram_of RAM_WORDS image); log = 0; beyond = None };
+        hart = reset 0 image.entry;
+        protected = record { memory = loaded_stack image.words; log = 0; beyond = None };
         console = [];
         steps = 0;
       };
-      budget = budget;
+      settings = settings;
       ended = None;
     }
 
-abbrev pub ecc_run : List ℕ → List ScriptLine → ℕ → MachineState (List CellState) ℕ → Run (MachineState (List CellState) ℕ)
-ecc_run input script left s = machine_run memory_meaning memory_flips event_counted input script left s
+-- a step and a run over the stack
+abbrev pub stack_move : List ℕ → List ScriptLine → StackState → Move StackState
+stack_move input script s = machine_move stack_meaning stack_flips event_counted input script s
+
+abbrev pub stack_run : List ℕ → List ScriptLine → ℕ → StackState → Run StackState
+stack_run input script left s = machine_run stack_meaning stack_flips event_counted input script left s
 
 -- a machine after a move
-abbrev pub after_move : EccMachine → Move (MachineState (List CellState) ℕ) → EccMachine
+abbrev pub after_move : StackMachine → Move StackState → StackMachine
 after_move m move = record m { state = move.after; ended = move.ending }
 
 -- what one step leaves: a machine at its budget ends, and one that has ended stays
-abbrev pub machine_stepped : Option Ending → List ℕ → List ScriptLine → EccMachine → EccMachine
+abbrev pub machine_stepped : Option Ending → List ℕ → List ScriptLine → StackMachine → StackMachine
 machine_stepped (Some ending) input script m = m
 machine_stepped None input script m =
-    if m.state.steps == m.budget
+    if m.state.steps == m.settings.budget
     then record m { ended = Some (record { stop = stops.Budget; steps = m.state.steps }) }
-    else after_move m (machine_move memory_meaning memory_flips event_counted input script m.state)
+    else after_move m (stack_move input script m.state)
 
 -- what a run leaves: a machine that has ended stays
-abbrev pub machine_left : Option Ending → List ℕ → List ScriptLine → EccMachine → EccMachine
+abbrev pub machine_left : Option Ending → List ℕ → List ScriptLine → StackMachine → StackMachine
 machine_left (Some ending) input script m = m
 machine_left None input script m =
-    let run = ecc_run input script (m.budget - m.state.steps) m.state in
+    let run = stack_run input script (m.settings.budget - m.state.steps) m.state in
     record m { state = run.after; ended = Some run.ending }

@@ -4,13 +4,13 @@ use Rattle.std.specs.List.{list_any}
 use Rattle.fault_script.specs.declared.lines.Act.{Act}
 use Rattle.fault_script.specs.declared.lines.Act.TheVariants.{Flip, Scrub}
 use Rattle.fault_script.specs.declared.lines.ScriptLine.{ScriptLine}
-use Rattle.rv64_hart.specs.Turn.{Outcome, End, Unbuilt, Store, turn, has_room}
+use Rattle.rv64_hart.specs.Outcome.{Outcome, End, Store, has_room}
+use Rattle.rv64_hart.specs.Turn.{turn}
 use Rattle.ras_machine.specs.Flat.{FlatState, answered, flat_after}
 
 -- the stores that a step of the flat machine makes: none where the console has no room
 abbrev pub stores_of : List ℕ → Outcome → List Store
 stores_of console (End after stores bytes stop) = if has_room console bytes then stores else []
-stores_of console Unbuilt = []
 
 -- the stores of step n from this state of the flat machine
 abbrev pub stores_in : List ℕ → ℕ → FlatState → List Store

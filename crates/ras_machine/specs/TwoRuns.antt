@@ -3,16 +3,18 @@ use Rattle.std.specs.Prelude.{◌≡◌, ℕ, ◌≤◌, ◌<◌, ◌⊎◌, Lis
 use Rattle.poison_mem.specs.declared.cell.UseKind.{UseKind}
 use Rattle.poison_mem.specs.Asking.{Asking, Answer, Ask}
 use Rattle.poison_mem.specs.Bus.{BusMeaning}
-use Rattle.ecc_memory.specs.Memory.{memory_meaning}
-use Rattle.ecc_memory.specs.MemoryStands.{MemoryStands}
+use Rattle.poison_mem.specs.Flips.{FlipMeaning}
+use Rattle.elf_load.specs.Program.{Program}
+use Rattle.mem_stack.specs.Stack.{stack_meaning, stack_flips}
+use Rattle.mem_stack.specs.StackStands.{StackStands}
 use Rattle.fault_script.specs.declared.lines.ScriptLine.{ScriptLine}
 use Rattle.rv64_hart.specs.Turn.{turn}
 use Rattle.ras_machine.specs.declared.ending.Stop.TheVariants as stops
 use Rattle.ras_machine.specs.declared.ending.Ending.{Ending}
 use Rattle.ras_machine.specs.Flat.{FlatState, FlatRun, flat_start, flat_step, flat_run, flat_after}
 use Rattle.ras_machine.specs.declared.state.MachineState.{MachineState}
-use Rattle.ras_machine.specs.Machine.{EccMachine}
-use Rattle.ras_machine.specs.Since.{since, since_before}
+use Rattle.ras_machine.specs.Machine.{StackMachine}
+use Rattle.ras_machine.specs.Since.{since, since_before, flips_between}
 
 -- a computation, answered by the RAM, asks for this word with this use
 abbrev pub AsksFor : {X : Type 0} → List ℕ → Asking X → ℕ → UseKind → Type 0
@@ -65,7 +67,12 @@ abbrev pub Ways : {B L : Type 0} → BusMeaning B → (B → (ℕ → ℕ) → (
 Ways bus stands input start script budget None s = InStep bus stands input start script s
 Ways bus stands input start script budget (Some ending) s = EndsEitherWay input start script budget ending s
 
+-- no word counts more flips than lines of the script flipped it in the steps that were made
+pub record CountsToScript {B L : Type 0} (flips : FlipMeaning B) (script : List ScriptLine) (s : MachineState B L) : Type 0 where
+  pub each : (w : ℕ) → (flips.cell s.protected.memory w).count ≤ flips_between script w 0 s.steps
+
 -- Two runs: unless a word took a third flip, the machine is in step with the flat machine of this image, or it ended
--- in one of the two ways.
-pub record KeepsToFlat (image input : List ℕ) (script : List ScriptLine) (m : EccMachine) : Type 0 where
-  pub ways : m.state.protected.beyond ≡ None → Ways memory_meaning MemoryStands input (flat_start image) script m.budget m.ended m.state
+-- in one of the two ways. Until it ends no word counts more flips than the script made.
+pub record KeepsToFlat (image : Program) (input : List ℕ) (script : List ScriptLine) (m : StackMachine) : Type 0 where
+  pub ways : m.state.protected.beyond ≡ None → Ways stack_meaning StackStands input (flat_start image) script m.settings.budget m.ended m.state
+  pub counts : m.ended ≡ None → CountsToScript stack_flips script m.state

@@ -4,7 +4,8 @@ ghost use Rattle.std.specs.Prelude.{◌≡◌, ◌+◌, ◌<◌, ◌≤◌, ◌^
 ghost use Rattle.ras_machine.specs.Ends.{guest_ending, ending_of};
 
 use poison_mem::UseKind;
-use rv64_hart::{GuestStop, TurnEnd};
+use rv64_hart::TurnEnd;
+use sbi_calls::GuestStop;
 
 /// Why a run stops.
 #[derive(Clone, Copy, Debug, PartialEq, Eq)]
@@ -19,14 +20,11 @@ pub enum Stop {
     ConsoleFull,
     /// The next step asked for word `w`, for this use, and the word is poison. The step began at this pc.
     Consumed { w: u32, use_kind: UseKind, pc: u64 },
-    /// The next step needs what is not built.
-    NotBuilt,
 }
 
 /// The end of a run: why it stopped, and how many steps it completed.
 ///
-/// A step that shuts the machine down or reboots it is completed. One that would overfill the console,
-/// or that needs what is not built, isn't.
+/// A step that shuts the machine down or reboots it is completed. One that would overfill the console isn't.
 #[derive(Clone, Copy, Debug, PartialEq, Eq)]
 pub struct Ending {
     pub stop: Stop,
@@ -66,10 +64,6 @@ pub(crate) fn ending_of(answer: TurnEnd, n: u64, pc: u64) -> Option<Ending>
         TurnEnd::Stop(stop) => Some(stopped(stop, n)),
         TurnEnd::Poisoned { w, use_kind } => Some(Ending {
             stop: Stop::Consumed { w, use_kind, pc },
-            steps: n,
-        }),
-        TurnEnd::NotBuilt => Some(Ending {
-            stop: Stop::NotBuilt,
             steps: n,
         }),
     }

@@ -4,18 +4,13 @@ ghost use Rattle.std.specs.Prelude.{◌≡◌, ◌+◌, ◌<◌, ◌≤◌, ◌^
 ghost use Rattle.ras_machine.specs.Flat.{flat_step, flat_run};
 
 use crate::ending::{Ending, Stop, stopped};
-use crate::image::memory_of;
+use crate::loading::memory_of;
+use elf_load::Image;
 use poison_mem::{FlatMem, NoLog};
 use ras_bits::NoMemory;
 use rv64_hart::{Console, Hart, TurnEnd};
 use std::alloc::Global;
 use std::marker::Model;
-
-/// The first address of RAM, at which an image is loaded and entered.
-pub(crate) const RAM_START: u64 = 0x8000_0000;
-
-/// How many words of eight bytes the RAM has: 16 MiB.
-pub const RAM_WORDS: u32 = 2_097_152;
 
 /// Makes step `n`, and answers the ending that it brings, if it does.
 fn advance(
@@ -34,10 +29,6 @@ fn advance(
         TurnEnd::Went => None,
         TurnEnd::Stop(stop) => Some(stopped(stop, n)),
         TurnEnd::Poisoned { .. } => unreachable!(),
-        TurnEnd::NotBuilt => Some(Ending {
-            stop: Stop::NotBuilt,
-            steps: n,
-        }),
     }
 }
 
@@ -65,7 +56,7 @@ fn run(
     }
 }
 
-/// The flat machine: one hart on 16 MiB of plain memory, with a budget of steps.
+/// The flat machine: one hart on plain memory, with a budget of steps.
 #[derive(Drop)]
 pub struct Flat {
     hart: Hart,
@@ -87,20 +78,18 @@ impl Model for Flat {
 }
 
 impl Flat {
-    ghost use Rattle.std.specs.Prelude.{◌≡◌, ◌≤◌, length, IfOk};
+    ghost use Rattle.std.specs.Prelude.{◌≡◌, ◌≤◌, IfOk};
     ghost use Rattle.ras_machine.specs.Flat.{flat_made, flat_ended, flat_left};
 
-    /// A machine whose RAM begins with an image of at most 16,777,216 bytes, at 0x80000000, where hart 0
-    /// enters it. The rest of the RAM is 0. RAM and console are taken here.
+    /// A machine whose RAM has the words of an image, which hart 0 enters. RAM and console are taken here.
     ///
     /// `NoMemory` comes for want of memory alone.
-    pub fn make(alloc: Global, image: &[u8], budget: u64) -> Result<Flat, NoMemory>
-        requires { length image.now ≤ 16777216 }
+    pub fn make(alloc: Global, image: &Image, budget: u64) -> Result<Flat, NoMemory>
         ensures { IfOk result (λ flat. flat ≡ flat_made image.now budget) }
     {
         Ok(Flat {
-            hart: Hart::new(0, RAM_START),
-            memory: memory_of(alloc, RAM_WORDS, image)?,
+            hart: Hart::new(0, image.entry()),
+            memory: memory_of(alloc, image.words())?,
             console: Console::make(alloc)?,
             budget,
             ended: None,

@@ -3,18 +3,21 @@
 //! Only `Machine::make` and `Flat::make` take memory.
 #![tactic(auto)]
 
-mod codewords;
 mod ending;
 mod events;
 mod flat;
-mod image;
+mod loading;
 mod machine;
 mod protected;
+mod settings;
 mod state;
 
 pub use ending::{Ending, Stop};
-pub use flat::{Flat, RAM_WORDS};
+pub use flat::Flat;
 pub use machine::Machine;
+pub use settings::Settings;
 
+#[cfg(test)]
+mod drawn_tests;
 #[cfg(test)]
 mod tests;

@@ -1,6 +1,7 @@
 //! Whole runs, with and without faults.
 
 use super::*;
+use elf_load::Image;
 use fault_script::Script;
 use poison_mem::{Cell, UseKind};
 use std::test::Fail;
@@ -28,21 +29,29 @@ const STORE_AND_PRINT: [u8; 32] = [
     0x93, 0x08, 0x10, 0x00, 0x73, 0x00, 0x00, 0x00, 0x93, 0x08, 0x80, 0x00, 0x73, 0x00, 0x00, 0x00,
 ];
 
-/// How many words of RAM there are.
-const WORDS: u32 = 2_097_152;
+/// How many words of RAM there are: 1 MiB.
+const WORDS: u32 = 131_072;
+
+/// The settings of a machine with this RAM.
+const SETTINGS: Settings = Settings {
+    ram_mib: 1,
+    poll: 0,
+    patrol: 0,
+    budget: 100,
+};
 
 #[test]
 fn runs_end_as_their_programs_say(rt: HostRuntime) -> Result<(), Fail> {
-    let rows: [(&[u8], u64, &[u8], Stop, u64); 6] = [
+    let rows: [(&[u8], u64, &[u8], Stop, u64); 5] = [
         (&PRINT_H, 100, b"H", Stop::Shutdown(0), 5),
         (&PRINT_H, 0, b"", Stop::Budget, 0),
         (&PRINT_H, 3, b"H", Stop::Budget, 3),
         (&IDLE, 7, b"", Stop::Budget, 7),
-        (&[0, 0, 0, 0], 100, b"", Stop::NotBuilt, 0),
-        (&[], 100, b"", Stop::NotBuilt, 0),
+        (&[], 3, b"", Stop::Budget, 3),
     ];
-    for (image, budget, console, stop, steps) in rows {
-        let mut flat = Flat::make(rt.alloc(), image, budget)?;
+    for (bytes, budget, console, stop, steps) in rows {
+        let image = Image::raw(rt.alloc(), bytes, WORDS)?;
+        let mut flat = Flat::make(rt.alloc(), &image, budget)?;
         let ending = Ending { stop, steps };
         assert_eq!(rt; flat.run_flat(&[]), ending);
         assert_eq!(rt; flat.run_flat(&[]), ending);
@@ -66,7 +75,7 @@ fn faults_end_runs_as_their_words_say(rt: HostRuntime) -> Result<(), Fail> {
             b"H",
             Stop::Shutdown(0),
             5,
-            2,
+            1,
             None,
         ),
         (
@@ -81,10 +90,10 @@ fn faults_end_runs_as_their_words_say(rt: HostRuntime) -> Result<(), Fail> {
         (
             &PRINT_H,
             "flip 1 0x80000008 3\nflip 1 0x80000008 9",
-            b"",
-            poisoned,
-            2,
-            1,
+            b"H",
+            Stop::Shutdown(0),
+            5,
+            0,
             None,
         ),
         (
@@ -115,9 +124,10 @@ fn faults_end_runs_as_their_words_say(rt: HostRuntime) -> Result<(), Fail> {
             None,
         ),
     ];
-    for (image, text, console, stop, steps, events, beyond) in rows {
+    for (bytes, text, console, stop, steps, events, beyond) in rows {
+        let image = Image::raw(rt.alloc(), bytes, WORDS)?;
         let script = Script::read(rt.alloc(), text.as_bytes(), WORDS)?;
-        let mut machine = Machine::make(rt.alloc(), image, 100)?;
+        let mut machine = Machine::make(rt.alloc(), &image, &SETTINGS)?;
         assert_eq!(rt; machine.run(&[], &script), Ending { stop, steps }, "{text}");
         assert_eq!(rt; machine.console(), console, "{text}");
         assert_eq!(rt; machine.events(), events, "{text}");
@@ -138,7 +148,13 @@ fn a_step_is_one_step_of_the_run(rt: HostRuntime) -> Result<(), Fail> {
         b"scrub 1 0x80000010\nflip 1 0x80000010 3\nflip 2 0x80000010 3",
         WORDS,
     )?;
-    let mut machine = Machine::make(rt.alloc(), &PRINT_H, 3)?;
+    let image = Image::raw(rt.alloc(), &PRINT_H, WORDS)?;
+    let settings = Settings {
+        budget: 3,
+        ..SETTINGS
+    };
+    let mut machine = Machine::make(rt.alloc(), &image, &settings)?;
+    assert_eq!(rt; machine.settings(), settings);
     assert_eq!(rt; machine.step(&[], &script), None);
     assert_eq!(rt; machine.step(&[], &script), None);
     assert_eq!(rt; machine.steps(), 2);
@@ -146,6 +162,7 @@ fn a_step_is_one_step_of_the_run(rt: HostRuntime) -> Result<(), Fail> {
     assert_eq!(rt; machine.view(0), Cell::Good(0x0010_0893_0480_0513));
     assert_eq!(rt; machine.step(&[], &script), None);
     assert_eq!(rt; machine.cell_state(2).count, 2);
+    assert_eq!(rt; machine.view(2), Cell::Good(0x73));
     let budget = Ending {
         stop: Stop::Budget,
         steps: 3,

@@ -14,6 +14,3 @@ pub returns-in-Stop-clause-step : goal.returns-in-Stop-clause-step
 returns-in-Stop-clause-step c =
     step_moves _ c.args.input.now c.args.n (record { hart = c.args.hart.now; ram = c.args.memory.now; console = c.args.console.now }) _ _ c.in-Stop.ensures.step
     ∙ rw c.stopped.ensures.ending refl
-
-pub returns-in-NotBuilt-clause-step : goal.returns-in-NotBuilt-clause-step
-returns-in-NotBuilt-clause-step c = step_moves _ c.args.input.now c.args.n (record { hart = c.args.hart.now; ram = c.args.memory.now; console = c.args.console.now }) _ _ c.in-NotBuilt.ensures.step

@@ -1,0 +1,15 @@
+use Rattle.std.proofs.Common.{◌<◌, length, arith}
+use Rattle.mem_stack.specs.StackStands.{loaded_words, loaded_stands}
+use Rattle.ras_machine.proofs.Filled.{filled, filled-length, all_filled}
+use Rattle.ras_machine.proofs.loading.stack_of.Goals as goal
+
+pub load-requires : goal.load-requires
+load-requires c =
+    let inside : c.loop-w.w < length c.args.words.now = c.loop-w-test.true in
+    rw (c.loop-w.invariant, loaded_words (filled c.args.words.now c.loop-w.w), filled-length c.args.words.now c.loop-w.w) inside
+
+pub returns-clause-stands : goal.returns-clause-stands
+returns-clause-stands c = λ q.
+    let words = c.args.words.now in
+    rw (c.loop-w.invariant, all_filled words c.loop-w.w (let over = c.loop-w-test.false in omega arith))
+    (loaded_stands words q c.requires.lines (λ w inside. let fits = c.type_inv.words w in omega arith))
