@@ -1,15 +1,18 @@
 -- A plan is followed call by call.
-use Rattle.std.proofs.Common.{◌≡◌, ◌≢◌, ℕ, arith, Option, Some, None, length, List, [], ◌∷◌, refl, sym, ◌∙◌, ap, inl, inr, subst}
+use Rattle.std.proofs.Common.{◌≡◌, ◌≢◌, ℕ, ◌≤◌, arith, Bool, true, false, Option, Some, None, length, List, [], ◌∷◌, ◌++◌, nat_eq, append-nil, append_assoc, refl, sym, ◌∙◌, ap, inl, inr, subst}
 use Rattle.std.specs.Prelude.{Vec, IfSome, ◌⊎◌}
 use Rattle.std.specs.declared.alloc.Global.{Global}
 use Rattle.std.proofs.lemmas.Bool.{le-ltb, lt-ltb}
+use Rattle.std.proofs.lemmas.Bool.Decides.{nat_tests}
 use Rattle.ras_host.specs.Reads.{Gets}
-use Rattle.ras_host.specs.declared.outside.Got.TheVariants.{Whole, Longer}
-use Rattle.ras_host.specs.Told.{Bytes, File, bytes_of, Outside, Action, Read, Performs}
+use Rattle.ras_host.specs.declared.outside.Got.TheVariants.{Longer}
+use Rattle.ras_host.specs.Told.{Bytes, File, bytes_of, Outside, Call, call_of, calls_of, Action, Read, Create, MissCreate, Out, Err, Performs}
 use Rattle.ras_host.proofs.ToldLemmas.{performs_then}
-use Rattle.ras_cli.specs.Plan.{Plan, Finish, Reading, Planned, read_then, carried_out, planned_by, line_written, usage}
-use Rattle.ras_cli.specs.Words.{run_of}
-use Rattle.ras_cli.specs.Follows.{IsFailed, IsStopped, Follows, OnlyReads}
+use Rattle.ras_cli.proofs.PerformsLemmas.{performs_append, calls_append, reads_append}
+use Rattle.ras_words.specs.Run.{Run, run_of}
+use Rattle.ras_cli.specs.Refusals.{usage}
+use Rattle.ras_cli.specs.Plan.{Plan, Finish, Reading, Planned, calls_then, carried_out, plan_of, planned_by, line_written}
+use Rattle.ras_cli.specs.Follows.{IsFailed, IsCut, IsRead, AreReads, IsStopped, IsFront, MakesFront, Follows, OnlyReads, WritesLine}
 
 abbrev planned : ℕ → List Action → Planned
 planned code actions = record { code = code; actions = actions }
@@ -47,20 +50,35 @@ follows_nothing a plan = record {
 abbrev Stopped : Outside → Outside → List Action → Type 0
 Stopped a b actions = (b ≡ a) ⊎ ((done : List Action) × IsStopped actions done × Performs a b done)
 
-stopped_read : (a b c : Outside) (name : Bytes) (limit : ℕ) (actions : List Action) → Performs a b (Read name limit ∷ []) → Stopped b c actions → Stopped a c (Read name limit ∷ actions)
-stopped_read a b c name limit actions h (inl e) =
-    inr (Read name limit ∷ [], record { rest = actions; front = refl; reads = (tt, tt) }, subst (λ o. Performs a o (Read name limit ∷ [])) (sym e) h)
-stopped_read a b c name limit actions h (inr k) =
-    inr (Read name limit ∷ k.0, record { rest = k.1.rest; front = ap (λ l. Read name limit ∷ l) k.1.front; reads = (tt, k.1.reads) }, performs_then a b c (Read name limit) k.0 h k.2)
+cut_append : (reads actions done : List Action) → IsCut actions done → IsCut (reads ++ actions) (reads ++ done)
+cut_append [] actions done h = h
+cut_append (x ∷ reads) actions done h = inr (reads ++ done, refl, cut_append reads actions done h)
 
--- a read that was made, and then the rest of the plan
-pub follows_read : (a b c : Outside) (name : Bytes) (limit : ℕ) (rest : Planned) (code : ℕ) → Performs a b (Read name limit ∷ []) → Follows b c rest code → Follows a c (read_then name limit rest) code
-follows_read a b c name limit rest code h g = record {
+stopped_append : (a b c : Outside) (reads actions : List Action) → AreReads reads → Performs a b reads → Stopped b c actions → Stopped a c (reads ++ actions)
+stopped_append a b c reads actions all h (inl e) =
+    inr (reads, record { rest = actions; front = refl; reads = all }, subst (λ o. Performs a o reads) (sym e) h)
+stopped_append a b c reads actions all h (inr k) =
+    inr (
+      reads ++ k.0,
+      record {
+        rest = k.1.rest;
+        front = ap (λ (l : List Action). reads ++ l) k.1.front ∙ sym (append_assoc reads k.0 k.1.rest);
+        reads = reads_append reads k.0 all k.1.reads;
+      },
+      performs_append a b c reads k.0 h k.2,
+    )
+
+-- reads that were made, and then the rest of the plan
+pub follows_reads : (a b c : Outside) (reads : List Action) (rest : Planned) (code : ℕ) → AreReads reads → Performs a b reads → Follows b c rest code → Follows a c (calls_then reads rest) code
+follows_reads a b c reads rest code all h g = record {
   status = g.status;
-  whole = λ no3 no4. performs_then a b c (Read name limit) rest.actions h (g.whole no3 no4);
-  cut = λ e. let k = g.cut e in (Read name limit ∷ k.0, inr (k.0, refl, k.1), performs_then a b c (Read name limit) k.0 h k.2);
-  stopped = λ e. stopped_read a b c name limit rest.actions h (g.stopped e);
+  whole = λ no3 no4. performs_append a b c reads rest.actions h (g.whole no3 no4);
+  cut = λ e. let k = g.cut e in (reads ++ k.0, cut_append reads rest.actions k.0 k.1, performs_append a b c reads k.0 h k.2);
+  stopped = λ e. stopped_append a b c reads rest.actions all h (g.stopped e);
 }
+
+pub follows_read : (a b c : Outside) (name : Bytes) (limit : ℕ) (rest : Planned) (code : ℕ) → Performs a b (Read name limit ∷ []) → Follows b c rest code → Follows a c (calls_then (Read name limit ∷ []) rest) code
+follows_read a b c name limit rest code h g = follows_reads a b c (Read name limit ∷ []) rest code (tt, tt) h g
 
 -- a call that was made, and then the others, of which none wants memory
 pub follows_then : (a b c : Outside) (action : Action) (actions : List Action) (code status : ℕ) → status ≢ 4 → Performs a b (action ∷ []) → Follows b c (planned code actions) status → Follows a c (planned code (action ∷ actions)) status
@@ -79,41 +97,85 @@ pub not_four : (code n : ℕ) → (code ≡ n) ⊎ (code ≡ 3) → n ≢ 4 → 
 not_four code n (inl h) no4 e = no4 (sym h ∙ e)
 not_four code n (inr h) no4 e = three≢four 3 4 refl refl (sym h ∙ e)
 
--- what comes of a read, over what the host tells of its files: a file that is too long
-pub longer_read : (files : Option (List File)) (name : Bytes) (limit : ℕ) (last : Planned) (whole : Bytes → Plan) (a b c : Outside) (code : ℕ)
+-- a file that is too long
+pub longer_read : (files : Option (List File)) (name : Bytes) (limit : ℕ) (last : Planned) (a b c : Outside) (code : ℕ)
     → IfSome files (λ fs. Gets (bytes_of fs name) limit Longer) → Performs a b (Read name limit ∷ [])
-    → Follows b c last code → IfSome files (λ fs. Follows a c (carried_out (Reading name limit (Finish last) whole) fs) code)
-longer_read None name limit last whole a b c code g h f = tt
-longer_read (Some fs) name limit last whole a b c code g h f =
+    → Follows b c last code → IfSome files (λ fs. (whole : Bytes → Plan) → Follows a c (carried_out (Reading name limit (Finish last) whole) fs) code)
+longer_read None name limit last a b c code g h f = tt
+longer_read (Some fs) name limit last a b c code g h f = λ whole.
     rw (lt-ltb limit (length (bytes_of fs name)) g) (follows_read a b c name limit last code h f)
 
--- a file that was read; the read leaves the files
-pub whole_read : (files after : Option (List File)) (name : Bytes) (limit : ℕ) (longer : Plan) (whole : Bytes → Plan) (bytes : Vec ℕ Global) (a b c : Outside) (code : ℕ)
-    → after ≡ files → IfSome files (λ fs. Gets (bytes_of fs name) limit (Whole bytes)) → Performs a b (Read name limit ∷ [])
-    → IfSome after (λ fs. Follows b c (carried_out (whole bytes.items) fs) code)
-    → IfSome files (λ fs. Follows a c (carried_out (Reading name limit longer whole) fs) code)
-whole_read None after name limit longer whole bytes a b c code e g h f = tt
-whole_read (Some fs) after name limit longer whole bytes a b c code e g h f =
-    let rest = subst (λ o. IfSome o (λ fs. Follows b c (carried_out (whole bytes.items) fs) code)) e f in
-    rw (le-ltb limit (length (bytes_of fs name)) g.0, ← g.1) (follows_read a b c name limit (carried_out (whole bytes.items) fs) code h rest)
+-- a file within its limit leaves the rest of the plan
+pub within_limit : (files : List File) (name : Bytes) (limit : ℕ) (longer : Plan) (whole : Bytes → Plan) → length (bytes_of files name) ≤ limit
+    → calls_then (Read name limit ∷ []) (carried_out (whole (bytes_of files name)) files) ≡ carried_out (Reading name limit longer whole) files
+within_limit files name limit longer whole fits = rw (le-ltb limit (length (bytes_of files name)) fits) refl
 
 -- a read that failed
-pub failed_read : (files : Option (List File)) (name : Bytes) (limit : ℕ) (longer : Plan) (whole : Bytes → Plan) (a b : Outside)
-    → Performs a b (Read name limit ∷ []) → IfSome files (λ fs. Follows a b (carried_out (Reading name limit longer whole) fs) 3)
-failed_read files name limit longer whole a b h = if_some_all files _ (λ fs. follows_failed a b (Read name limit) (Read name limit ∷ []) _ _ refl h)
+pub failed_read : (files : Option (List File)) (name : Bytes) (limit : ℕ) (longer : Plan) (a b : Outside)
+    → Performs a b (Read name limit ∷ []) → IfSome files (λ fs. (whole : Bytes → Plan) → Follows a b (carried_out (Reading name limit longer whole) fs) 3)
+failed_read files name limit longer a b h = if_some_all files _ (λ fs whole. follows_failed a b (Read name limit) (Read name limit ∷ []) _ _ refl h)
 
 -- a read that met want of memory
-pub unread : (files : Option (List File)) (name : Bytes) (limit : ℕ) (longer : Plan) (whole : Bytes → Plan) (a b : Outside)
-    → Performs a b (Read name limit ∷ []) → IfSome files (λ fs. Follows a b (carried_out (Reading name limit longer whole) fs) 4)
-unread files name limit longer whole a b h = if_some_all files _ (λ fs. follows_read a b b name limit _ 4 h (follows_nothing b _))
-
--- a read, and then nothing but reads
-pub reads_then : (a b c : Outside) (name : Bytes) (limit : ℕ) → Performs a b (Read name limit ∷ []) → OnlyReads b c → OnlyReads a c
-reads_then a b c name limit h (inl e) = inr (Read name limit ∷ [], (tt, tt), subst (λ o. Performs a o (Read name limit ∷ [])) (sym e) h)
-reads_then a b c name limit h (inr k) = inr (Read name limit ∷ k.0, (tt, k.1), performs_then a b c (Read name limit) k.0 h k.2)
+pub unread : (files : Option (List File)) (name : Bytes) (limit : ℕ) (longer : Plan) (a b : Outside)
+    → Performs a b (Read name limit ∷ []) → IfSome files (λ fs. (whole : Bytes → Plan) → Follows a b (carried_out (Reading name limit longer whole) fs) 4)
+unread files name limit longer a b h = if_some_all files _ (λ fs whole. follows_read a b b name limit _ 4 h (follows_nothing b _))
 
 -- words that ask for nothing
-pub refused_words : (files : Option (List File)) (words : List Bytes) (a b : Outside) (code : ℕ) → None ≡ run_of words
+pub refused_words : (files : Option (List File)) (words : List Bytes) (a b : Outside) (code : ℕ) → run_of words ≡ None
     → Follows a b (line_written 1 usage) code → IfSome files (λ fs. Follows a b (planned_by words fs) code)
 refused_words None words a b code e h = tt
-refused_words (Some fs) words a b code e h = rw (← e) h
+refused_words (Some fs) words a b code e h = rw e h
+
+-- ---- the calls that are made are the first of the plan's
+
+front_all : (plan : Planned) → IsFront plan plan.actions
+front_all plan = record { rest = []; front = sym (append-nil (calls_of plan.actions)) }
+
+cut_front : (actions done : List Action) → IsCut actions done → (rest : List Call) × (calls_of actions ≡ calls_of done ++ rest)
+cut_front [] done h = absurd h
+cut_front (x ∷ xs) done (inl f) = failed x f
+  where
+    failed : (x : Action) → IsFailed x done → (rest : List Call) × (calls_of (x ∷ xs) ≡ calls_of done ++ rest)
+    failed (Read name limit) e = (calls_of xs, rw e refl)
+    failed (Create name bytes) (inl e) = (calls_of xs, rw e refl)
+    failed (Create name bytes) (inr e) = (calls_of xs, rw e.1 refl)
+    failed (MissCreate name) e = (calls_of xs, rw e refl)
+    failed (Out bytes) e = (calls_of xs, rw e.1 refl)
+    failed (Err bytes) e = (calls_of xs, rw e.1 refl)
+cut_front (x ∷ xs) done (inr k) =
+    let more = cut_front xs k.0 k.2 in
+    (more.0, rw k.1 (ap (λ (l : List Call). call_of x ∷ l) more.1))
+
+pub makes_front : (a b : Outside) (plan : Planned) (code : ℕ) → Follows a b plan code → MakesFront a b plan
+makes_front a b plan code f = by_three (nat_eq code 3) refl
+  where
+    by_four : code ≢ 3 → (t : Bool) → nat_eq code 4 ≡ t → MakesFront a b plan
+    by_four no3 true e = by_stop (f.stopped (grind (arith, nat_tests)))
+      where
+        by_stop : (b ≡ a) ⊎ ((done : List Action) × IsStopped plan.actions done × Performs a b done) → MakesFront a b plan
+        by_stop (inl same) = inl same
+        by_stop (inr k) = inr (k.0, record { rest = calls_of k.1.rest; front = ap calls_of k.1.front ∙ calls_append k.0 k.1.rest }, k.2)
+    by_four no3 false e = inr (plan.actions, front_all plan, f.whole no3 (grind (arith, nat_tests)))
+
+    by_three : (t : Bool) → nat_eq code 3 ≡ t → MakesFront a b plan
+    by_three true e =
+        let k = f.cut (grind (arith, nat_tests)) in
+        let r = cut_front plan.actions k.0 k.1 in
+        inr (k.0, record { rest = r.0; front = r.1 }, k.2)
+    by_three false e = by_four (grind (arith, nat_tests)) (nat_eq code 4) refl
+
+-- the same where the host tells its files
+pub all_make_front : (files : Option (List File)) (plan : List File → Planned) (a b : Outside) (code : ℕ)
+    → IfSome files (λ fs. Follows a b (plan fs) code) → IfSome files (λ fs. MakesFront a b (plan fs))
+all_make_front None plan a b code f = tt
+all_make_front (Some fs) plan a b code f = makes_front a b (plan fs) code f
+
+-- the calls of a run that words ask for
+pub words_front : (files : Option (List File)) (words : List Bytes) (run : Run) (a b : Outside) (code : ℕ) → run_of words ≡ Some run
+    → IfSome files (λ fs. Follows a b (carried_out (plan_of (Some run)) fs) code) → IfSome files (λ fs. MakesFront a b (planned_by words fs))
+words_front files words run a b code e f = rw e (all_make_front files (carried_out (plan_of (Some run))) a b code f)
+
+-- a line was written for refused words
+pub usage_line : (a b : Outside) (code : ℕ) → Follows a b (line_written 1 usage) code → (code ≡ 1) ⊎ (code ≡ 2) → WritesLine a b
+usage_line a b code f (inl e) = ([], usage, tt, f.whole (λ x. omega (arith, x, e)) (λ x. omega (arith, x, e)))
+usage_line a b code f (inr e) = ([], usage, tt, f.whole (λ x. omega (arith, x, e)) (λ x. omega (arith, x, e)))

@@ -1,49 +1,32 @@
 -- The headline, out of what was done and the two-run theorem.
-use Rattle.std.proofs.Common.{◌≡◌, ℕ, zero, suc, ◌+◌, ◌≤◌, Bool, true, false, List, [], ◌∷◌, ◌++◌, length, Option, Some, None, refl, ◌∙◌, ap, subst, inl, inr}
-use Rattle.std.specs.Prelude.{Vec, IfSome, Result, ◌⊎◌, if◌then◌else◌}
-use Rattle.std.specs.declared.alloc.Global.{Global}
-use Rattle.std.proofs.lemmas.Bool.{le-ltb}
+use Rattle.std.proofs.Common.{◌≡◌, ◌≢◌, ℕ, zero, suc, ◌+◌, ◌≤◌, arith, Bool, true, false, List, [], ◌∷◌, ◌++◌, length, Option, Some, None, Ok, refl, sym, ◌∙◌, ap, subst, inl, inr}
+use Rattle.std.specs.Prelude.{IfSome, ◌⊎◌, if◌then◌else◌}
+use Rattle.elf_load.specs.Program.{Program}
+use Rattle.fault_script.specs.Steps.{InRisingSteps}
 use Rattle.fault_script.specs.declared.lines.ScriptLine.{ScriptLine}
-use Rattle.ras_host.specs.Reads.{Gets}
-use Rattle.ras_host.specs.declared.outside.Got.TheVariants.{Whole}
-use Rattle.ras_host.specs.Told.{Bytes, File, bytes_of, Outside, Action, Out, Err, Performs}
-use Rattle.poison_mem.specs.declared.cell.CellState.{CellState}
-use Rattle.rv64_hart.specs.Turn.{Outcome, End, Unbuilt, has_room}
-use Rattle.rv64_hart.specs.declared.ends.GuestStop.{GuestStop}
+use Rattle.ras_host.specs.Told.{Bytes, File, Outside, Action, Out, Err, Performs}
+use Rattle.rv64_hart.specs.State.{ArchitecturalState}
+use Rattle.rv64_hart.specs.Outcome.{Outcome, End, has_room}
+use Rattle.sbi_calls.specs.declared.stop.GuestStop.{GuestStop}
+use Rattle.ras_machine.specs.declared.ending.Stop.{Stop}
 use Rattle.ras_machine.specs.declared.ending.Stop.TheVariants as stops
 use Rattle.ras_machine.specs.declared.ending.Ending.{Ending}
-use Rattle.ras_machine.specs.declared.state.MachineState.{MachineState}
+use Rattle.ras_machine.specs.declared.settings.Settings.{Settings}
 use Rattle.ras_machine.specs.Ends.{guest_ends}
 use Rattle.ras_machine.specs.Flat.{FlatState, FlatMove, FlatRun, flat_start, flat_outcome, flat_step, flat_run, ram_after}
-use Rattle.ras_machine.specs.Runs as runs
 use Rattle.ras_machine.specs.Runs.{ended_or}
 use Rattle.ras_machine.specs.TwoRuns.{FirstWay, SecondWay}
+use Rattle.ras_words.specs.Run.{Run}
 use Rattle.ras_cli.specs.Report.{report_of}
-use Rattle.ras_cli.specs.Runs.{flat_run_of, faulty_run, KeepsToFlatRun}
-use Rattle.ras_cli.specs.Plan.{Planned, Reading, image_limit, image_too_long, script_limit, carried_out, plan_of, with_image, with_lines, with_text, results_of, status_of}
+use Rattle.ras_cli.specs.Runs.{FaultyRun, faulty_run, flat_run_of, KeepsToFlatRun}
+use Rattle.ras_cli.specs.Plan.{Planned, calls_then, carried_out, plan_of, settings_of, results_of, status_of}
+use Rattle.ras_cli.specs.Accepted.{IsAccepted, IsReadAs, reads_of}
 use Rattle.ras_cli.specs.Follows.{Follows}
-use Rattle.ras_cli.specs.Headline.{Headline, HasRun, EndsAsFlat, StopsAtFlips, IsAccepted, KeepsWith, reads_of, script_text}
-use Rattle.ras_cli.specs.Words.{Run}
+use Rattle.ras_cli.specs.Headline.{IsWhole, Completes, EndsAsFlat, StopsAtFlips, KeepsToFlatMachine, Headline}
+use Rattle.ras_cli.proofs.AcceptedLemmas.{planned_accepted, all_are_reads}
+use Rattle.ras_cli.proofs.FollowsLemmas.{follows_reads}
 
-abbrev all_of : Bytes → Option Bytes → Planned → Planned
-all_of image script rest = record { code = rest.code; actions = reads_of image script ++ rest.actions }
-
--- the plan of a run whose files are within their limits
-planned_within : (files : List File) (image : Bytes) (budget : ℕ) (script : Option Bytes) → length (bytes_of files image) ≤ image_limit → length (script_text files script) ≤ script_limit
-    → carried_out (Reading image image_limit image_too_long (with_image budget script)) files ≡ all_of image script (with_text (bytes_of files image) budget (script_text files script))
-planned_within files image budget None i s = rw (le-ltb image_limit (length (bytes_of files image)) i) refl
-planned_within files image budget (Some name) i s =
-    rw (le-ltb image_limit (length (bytes_of files image)) i, le-ltb script_limit (length (bytes_of files name)) s) refl
-
--- the plan of an accepted run
-planned_accepted : (files : List File) (run : Run) (lines : List ScriptLine) → IsAccepted files run lines
-    → carried_out (plan_of (Some run)) files ≡ all_of run.image run.script (results_of (faulty_run (bytes_of files run.image) run.budget lines))
-planned_accepted files run lines h =
-    planned_within files run.image run.budget run.script h.image h.script
-    ∙ ap (λ (r : Result _ _). all_of run.image run.script (with_lines (bytes_of files run.image) run.budget r)) h.lines_read
-
-abbrev State : Type 0
-State = MachineState (List CellState) ℕ
+-- ---- statuses
 
 -- a run of the flat machine never stops at poison
 guest_status : (stop : Option GuestStop) (n : ℕ) → IfSome (guest_ends stop n) (λ (e : Ending). status_of e.stop ≡ 0)
@@ -62,7 +45,6 @@ outcome_status n s (End after stores bytes stop) = by_room (has_room s.console b
         IfSome move.ending (λ (e : Ending). status_of e.stop ≡ 0)
     by_room true = guest_status stop n
     by_room false = refl
-outcome_status n s Unbuilt = refl
 
 ended_status : (e : Option Ending) (s : FlatState) (more : FlatRun) → IfSome e (λ (x : Ending). status_of x.stop ≡ 0) → status_of more.ending.stop ≡ 0 → status_of (ended_or e s more).ending.stop ≡ 0
 ended_status None s more h g = g
@@ -75,66 +57,125 @@ flat_status input (suc left) n s =
     let move = flat_step input n s in
     ended_status move.ending move.after (flat_run input left (n + 1) move.after) (outcome_status n s _) (flat_status input left (n + 1) move.after)
 
--- the results of a run with this console and ending
-results_are : (run : runs.Run State) (console : Bytes) (ending : Ending) → run.after.console ≡ console → run.ending ≡ ending → run.after.protected.beyond ≡ None
-    → (results_of run).actions ≡ Out console ∷ Err (report_of ending run.after.protected.log None) ∷ []
-results_are run console ending c e n = rw (c, e, n) refl
+either_status : (stop : Stop) → (status_of stop ≡ 0) ⊎ (status_of stop ≡ 5)
+either_status (stops.Shutdown reason) = inl refl
+either_status (stops.Reboot reboot_kind) = inl refl
+either_status stops.Budget = inl refl
+either_status stops.ConsoleFull = inl refl
+either_status (stops.Consumed w use_kind pc) = inr refl
 
-first_way : (run : Run) (image : Bytes) (lines : List ScriptLine) (a b : Outside) (code : ℕ) → code ≡ status_of (faulty_run image run.budget lines).ending.stop
-    → Performs a b (reads_of run.image run.script ++ (results_of (faulty_run image run.budget lines)).actions) → (faulty_run image run.budget lines).after.protected.beyond ≡ None
-    → FirstWay (flat_run_of image run.budget) (faulty_run image run.budget lines).ending (faulty_run image run.budget lines).after → EndsAsFlat run image lines a b code
-first_way run image lines a b code s w none f = record {
-  status = s ∙ ap (λ (e : Ending). status_of e.stop) f.same_ending ∙ flat_status [] run.budget 0 (flat_start image);
-  written = subst (λ (l : List Action). Performs a b (reads_of run.image run.script ++ l)) (results_are (faulty_run image run.budget lines) _ _ f.console f.same_ending none) w;
+-- ---- outputs
+
+-- what was done is the plan of the accepted files
+is_whole : (files : List File) (run : Run) (image : Program) (lines : List ScriptLine) (input : Bytes) (a b : Outside) (code : ℕ) → IsAccepted files run image lines input
+    → Follows a b (carried_out (plan_of (Some run)) files) code → code ≢ 3 → code ≢ 4 → IsWhole run (faulty_run image (settings_of run) input lines) a b code
+is_whole files run image lines input a b code k f no3 no4 =
+    let faulty : FaultyRun = faulty_run image (settings_of run) input lines in
+    let plan : Follows a b (calls_then (reads_of run) (results_of faulty)) code = subst (λ (p : Planned). Follows a b p code) (sym (planned_accepted files run image lines input k)) f in
+    let status : code ≡ status_of faulty.ending.stop = plan.status no3 no4 in
+    record {
+      either = by_status status (either_status faulty.ending.stop);
+      status = status;
+      written = plan.whole no3 no4;
+    }
+  where
+    by_status : {s : ℕ} → code ≡ s → (s ≡ 0) ⊎ (s ≡ 5) → (code ≡ 0) ⊎ (code ≡ 5)
+    by_status e (inl h) = inl (e ∙ h)
+    by_status e (inr h) = inr (e ∙ h)
+
+pub all_complete : (files : Option (List File)) (run : Run) (a b : Outside) (code : ℕ) → IfSome files (λ fs. Follows a b (carried_out (plan_of (Some run)) fs) code) → IfSome files (λ fs. Completes fs run a b code)
+all_complete None run a b code f = tt
+all_complete (Some fs) run a b code f = λ image lines input k no3 no4. is_whole fs run image lines input a b code k f no3 no4
+
+-- ---- the two ways
+
+-- the results of a run with this console, ending and hart
+results_with : (faulty : FaultyRun) (console : Bytes) (ending : Ending) (hart : ArchitecturalState) → faulty.after.console ≡ console → faulty.ending ≡ ending → faulty.after.hart ≡ hart
+    → faulty.after.protected.beyond ≡ None → (results_of faulty).actions ≡ Out console ∷ Err (report_of ending faulty.after.protected.log None hart) ∷ []
+results_with faulty console ending hart c e h n = rw (c, e, h, n) refl
+
+ends_as_flat : (run : Run) (image : Program) (input : Bytes) (faulty : FaultyRun) (a b : Outside) (code : ℕ) → IsWhole run faulty a b code → faulty.after.protected.beyond ≡ None
+    → FirstWay (flat_run_of image (settings_of run) input) faulty.ending faulty.after → EndsAsFlat run image input faulty a b code
+ends_as_flat run image input faulty a b code w none f = record {
+  status = w.status ∙ ap (λ (e : Ending). status_of e.stop) f.same_ending ∙ flat_status input run.budget 0 (flat_start image);
+  written = subst (λ (l : List Action). Performs a b (reads_of run ++ l)) (results_with faulty _ _ _ f.console f.same_ending f.hart none) w.written;
   hart = f.hart;
 }
 
-second_way : (run : Run) (image : Bytes) (lines script : List ScriptLine) (a b : Outside) (code : ℕ) → code ≡ status_of (faulty_run image run.budget lines).ending.stop
-    → Performs a b (reads_of run.image run.script ++ (results_of (faulty_run image run.budget lines)).actions) → (faulty_run image run.budget lines).after.protected.beyond ≡ None
-    → SecondWay [] (flat_start image) script run.budget (faulty_run image run.budget lines).ending (faulty_run image run.budget lines).after → StopsAtFlips run image lines script a b code
-second_way run image lines script a b code s w none k = record {
-  n = (faulty_run image run.budget lines).after.steps;
+stops_at_flips : (run : Run) (image : Program) (input : Bytes) (faulty : FaultyRun) (script : List ScriptLine) (a b : Outside) (code : ℕ) → IsWhole run faulty a b code → faulty.after.protected.beyond ≡ None
+    → SecondWay input (flat_start image) script run.budget faulty.ending faulty.after → StopsAtFlips run image input faulty script a b code
+stops_at_flips run image input faulty script a b code w none k = record {
+  n = faulty.after.steps;
   w = k.w;
   use_kind = k.use_kind;
-  status = s ∙ ap (λ (e : Ending). status_of e.stop) k.consumed;
+  status = w.status ∙ ap (λ (e : Ending). status_of e.stop) k.consumed;
   early = k.early;
-  written = subst (λ (l : List Action). Performs a b (reads_of run.image run.script ++ l)) (results_are (faulty_run image run.budget lines) _ _ k.console k.consumed none) w;
+  written = subst (λ (l : List Action). Performs a b (reads_of run ++ l)) (results_with faulty _ _ _ k.console k.consumed k.hart none) w.written;
   hart = k.hart;
   goes_on = k.goes_on;
   asks = k.asks;
   flipped_twice = k.flipped_twice;
 }
 
-has_run : (run : Run) (image : Bytes) (lines : List ScriptLine) (a b : Outside) (code : ℕ) → code ≡ status_of (faulty_run image run.budget lines).ending.stop
-    → Performs a b (reads_of run.image run.script ++ (results_of (faulty_run image run.budget lines)).actions) → KeepsToFlatRun image run.budget lines → HasRun run image lines a b code
-has_run run image lines a b code s w k = record {
-  status = s;
-  written = w;
+keeps_machine : (run : Run) (image : Program) (lines : List ScriptLine) (input : Bytes) (a b : Outside) (code : ℕ) → IsWhole run (faulty_run image (settings_of run) input lines) a b code
+    → KeepsToFlatRun image (settings_of run) input lines → KeepsToFlatMachine run image input lines (faulty_run image (settings_of run) input lines) a b code
+keeps_machine run image lines input a b code w k = record {
   script = k.script;
   rising = k.rising;
   either_way = λ none. by_way none (k.ways none);
-  each_once = λ once. first_way run image lines a b code s w (k.clear once) (k.first_way once);
+  each_once = λ once. ends_as_flat run image input faulty a b code w (k.clear once) (k.first_way once);
 }
   where
-    by_way : (faulty_run image run.budget lines).after.protected.beyond ≡ None
-        → FirstWay (flat_run_of image run.budget) (faulty_run image run.budget lines).ending (faulty_run image run.budget lines).after
-        ⊎ SecondWay [] (flat_start image) k.script run.budget (faulty_run image run.budget lines).ending (faulty_run image run.budget lines).after
-        → EndsAsFlat run image lines a b code ⊎ StopsAtFlips run image lines k.script a b code
-    by_way none (inl f) = inl (first_way run image lines a b code s w none f)
-    by_way none (inr f) = inr (second_way run image lines k.script a b code s w none f)
+    faulty : FaultyRun
+    faulty = faulty_run image (settings_of run) input lines
 
-pub headline_of : (files : List File) (run : Run) (a b : Outside) (code : ℕ) → Follows a b (carried_out (plan_of (Some run)) files) code
-    → KeepsWith files (bytes_of files run.image) run.budget run.script code → Headline files run a b code
-headline_of files run a b code f k = λ lines h no3 no4.
-    let plan = planned_accepted files run lines h in
-    has_run run (bytes_of files run.image) lines a b code (f.status no3 no4 ∙ ap (λ (p : Planned). p.code) plan)
-    (subst (λ (p : Planned). Performs a b p.actions) plan (f.whole no3 no4)) (k lines h.script h.lines_read no3 no4)
+    by_way : faulty.after.protected.beyond ≡ None
+        → FirstWay (flat_run_of image (settings_of run) input) faulty.ending faulty.after ⊎ SecondWay input (flat_start image) k.script run.budget faulty.ending faulty.after
+        → EndsAsFlat run image input faulty a b code ⊎ StopsAtFlips run image input faulty k.script a b code
+    by_way none (inl f) = inl (ends_as_flat run image input faulty a b code w none f)
+    by_way none (inr s) = inr (stops_at_flips run image input faulty k.script a b code w none s)
 
--- the headline of a run whose image was read
-pub headline_read : (files after : Option (List File)) (run : Run) (image : Vec ℕ Global) (a b : Outside) (code : ℕ) → after ≡ files
-    → IfSome files (λ fs. Gets (bytes_of fs run.image) image_limit (Whole image)) → IfSome after (λ fs. KeepsWith fs image.items run.budget run.script code)
+-- the files are accepted in one way
+same_accepted : (files : List File) (run : Run) (image other : Program) (lines more : List ScriptLine) (input text : Bytes) → IsAccepted files run image lines input → IsAccepted files run other more text
+    → KeepsToFlatRun image (settings_of run) input lines → KeepsToFlatRun other (settings_of run) text more
+same_accepted files run image other lines more input text k h keeps =
+    let program : Ok image ≡ Ok other = sym k.image_is.is ∙ h.image_is.is in
+    let script : Ok lines ≡ Ok more = sym k.script_is.is ∙ h.script_is.is in
+    let p : image ≡ other = cc program in
+    let s : lines ≡ more = cc script in
+    let i : input ≡ text = k.input_is.is ∙ sym h.input_is.is in
+    subst (λ (x : Program). KeepsToFlatRun x (settings_of run) text more) p
+    (subst (λ (x : List ScriptLine). KeepsToFlatRun image (settings_of run) text x) s
+    (subst (λ (x : Bytes). KeepsToFlatRun image (settings_of run) x lines) i keeps))
+
+-- ---- the run of what was read
+
+pub run_follows : (files : Option (List File)) (run : Run) (settings : Settings) (image : Program) (script : List ScriptLine) (input : Bytes) (a b c : Outside) (code : ℕ) → settings ≡ settings_of run
+    → IfSome files (λ fs. IsReadAs fs run image script input) → Performs a b (reads_of run)
+    → ((lines : List ScriptLine) → InRisingSteps lines script → Follows b c (results_of (faulty_run image settings input lines)) code)
+    → IfSome files (λ fs. Follows a c (carried_out (plan_of (Some run)) fs) code)
+run_follows None run settings image script input a b c code e k h f = tt
+run_follows (Some fs) run settings image script input a b c code e k h f =
+    subst (λ (p : Planned). Follows a c p code) (planned_accepted fs run image k.lines input k.is)
+    (follows_reads a b c (reads_of run) _ code (all_are_reads run) h
+    (subst (λ (s : Settings). Follows b c (results_of (faulty_run image s input k.lines)) code) e (f k.lines k.rising)))
+
+pub run_headline : (files : Option (List File)) (run : Run) (settings : Settings) (image : Program) (script : List ScriptLine) (input : Bytes) (a b : Outside) (code : ℕ) → settings ≡ settings_of run
+    → IfSome files (λ fs. IsReadAs fs run image script input) → IfSome files (λ fs. Follows a b (carried_out (plan_of (Some run)) fs) code)
+    → ((lines : List ScriptLine) → InRisingSteps lines script → code ≢ 4 → KeepsToFlatRun image settings input lines) → IfSome files (λ fs. Headline fs run a b code)
+run_headline None run settings image script input a b code e k f keeps = tt
+run_headline (Some fs) run settings image script input a b code e k f keeps = λ other more text h no3 no4.
+    keeps_machine run other more text a b code (is_whole fs run other more text a b code h f no3 no4)
+    (same_accepted fs run image other k.lines more input text k.is h
+    (subst (λ (s : Settings). KeepsToFlatRun image s input k.lines) e (keeps k.lines k.rising no4)))
+
+-- a run that was refused had no accepted files
+pub refused_headline : (files : Option (List File)) (run : Run) (a b : Outside) (code : ℕ) → 2 ≤ code → code ≤ 4
     → IfSome files (λ fs. Follows a b (carried_out (plan_of (Some run)) fs) code) → IfSome files (λ fs. Headline fs run a b code)
-headline_read None after run image a b code e g k f = tt
-headline_read (Some fs) after run image a b code e g k f =
-    let kept = subst (λ o. IfSome o (λ fs. KeepsWith fs image.items run.budget run.script code)) e k in
-    headline_of fs run a b code f (subst (λ (bytes : Bytes). KeepsWith fs bytes run.budget run.script code) g.1 kept)
+refused_headline None run a b code low high f = tt
+refused_headline (Some fs) run a b code low high f = λ image lines input k no3 no4.
+    absurd (impossible (is_whole fs run image lines input a b code k f no3 no4).either no3 no4)
+  where
+    impossible : (code ≡ 0) ⊎ (code ≡ 5) → code ≢ 3 → code ≢ 4 → ⊥
+    impossible (inl e) no3 no4 = omega arith
+    impossible (inr e) no3 no4 = omega arith

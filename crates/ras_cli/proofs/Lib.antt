@@ -1,4 +1,7 @@
+pub mod Registers
+pub mod PerformsLemmas
 pub mod FollowsLemmas
-pub mod WordsLemmas
+pub mod EndsLemmas
 pub mod RunsLemmas
+pub mod AcceptedLemmas
 pub mod HeadlineLemmas

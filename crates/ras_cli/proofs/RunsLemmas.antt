@@ -1,73 +1,115 @@
 -- Runs under the lines of a script, in any order that keeps those of each step.
-use Rattle.std.proofs.Common.{arith, ◌≡◌, ℕ, suc, zero, List, [], ◌∷◌, None, refl, sym, ◌∙◌, ap, subst}
-use Rattle.std.specs.Prelude.{Ok, ◌⊎◌}
-use Rattle.poison_mem.specs.declared.cell.CellState.{CellState}
-use Rattle.ecc_memory.specs.Memory.{memory_meaning, memory_flips}
-use Rattle.fault_script.specs.Script.{lines_in}
-use Rattle.fault_script.specs.Fits.{IsScriptFor}
+use Rattle.std.proofs.Common.{◌≡◌, ℕ, suc, zero, List, [], ◌∷◌, Option, None, Some, refl, sym, ◌∙◌, ap, subst}
+use Rattle.std.specs.Prelude.{◌⊎◌}
+use Rattle.elf_load.specs.Program.{Program}
+use Rattle.mem_stack.specs.Stack.{stack_meaning, stack_flips}
 use Rattle.fault_script.specs.Steps.{at_step, InRisingSteps}
 use Rattle.fault_script.specs.declared.lines.ScriptLine.{ScriptLine}
-use Rattle.ras_host.specs.Told.{Bytes, Outside}
-use Rattle.ras_machine.specs.Flat.{flat_start}
-use Rattle.ras_machine.specs.Machine.{machine_made, machine_move, machine_run, moved, hart_step, acts_done, event_counted, ecc_run}
+use Rattle.ras_host.specs.Told.{Bytes, Outside, Out, Err}
+use Rattle.rv64_hart.specs.State.{ArchitecturalState}
+use Rattle.ras_machine.specs.Flat.{flat_start, flat_run}
+use Rattle.ras_machine.specs.Machine.{StackState, StackMachine, machine_made, machine_left, machine_run, stack_move, stack_run, moved, hart_step, acts_done, event_counted}
 use Rattle.ras_machine.specs.Runs.{Move, Run, ended_or}
 use Rattle.ras_machine.specs.Since.{FlipsEachOnce}
-use Rattle.ras_machine.proofs.Machines.{left_keeps, left_clear, left_first}
-use Rattle.ras_machine.specs.TwoRuns.{KeepsToFlat, FirstWay, SecondWay}
-use Rattle.ras_machine.specs.declared.state.MachineState.{MachineState}
-use Rattle.ras_cli.specs.Runs.{faulty_run, flat_run_of, KeepsToFlatRun}
-use Rattle.ras_cli.specs.Plan.{Planned, ram_words, status_of, report_in, results_of, with_lines, with_text}
+use Rattle.ras_machine.specs.TwoRuns.{FirstWay, SecondWay, EndsEitherWay}
+use Rattle.ras_machine.specs.declared.ending.Ending.{Ending}
+use Rattle.ras_machine.specs.declared.settings.Settings.{Settings}
+use Rattle.ras_cli.specs.Runs.{FaultyRun, faulty_run, flat_run_of, KeepsToFlatRun}
+use Rattle.ras_cli.specs.Plan.{Planned, status_of, report_in, results_of}
+use Rattle.ras_cli.specs.Report.{report_of}
 use Rattle.ras_cli.specs.Follows.{Follows}
-use Rattle.ras_host.specs.Told.{Out, Err as ErrAction}
-use Rattle.fault_script.specs.Steps.{GivesScript}
-
-abbrev State : Type 0
-State = MachineState (List CellState) ℕ
 
 -- a step sees only the lines of its step
-move_same : (lines read : List ScriptLine) (s : State) → at_step s.steps lines ≡ at_step s.steps read
-    → machine_move memory_meaning memory_flips event_counted [] lines s ≡ machine_move memory_meaning memory_flips event_counted [] read s
-move_same lines read s h =
-    ap (λ (now : List ScriptLine). let struck = record s { protected = acts_done memory_flips event_counted s.steps now s.protected } in
-    moved struck (hart_step memory_meaning event_counted [] struck)) h
+move_same : (input : Bytes) (lines read : List ScriptLine) (s : StackState) → at_step s.steps lines ≡ at_step s.steps read → stack_move input lines s ≡ stack_move input read s
+move_same input lines read s h =
+    ap (λ (now : List ScriptLine). let struck = record s { protected = acts_done stack_flips event_counted s.steps now s.protected } in
+    moved struck (hart_step stack_meaning event_counted input struck)) h
 
-run_same : (lines read : List ScriptLine) → ((step : ℕ) → at_step step lines ≡ at_step step read) → (left : ℕ) (s : State)
-    → ecc_run [] lines left s ≡ ecc_run [] read left s
+run_same : (input : Bytes) (lines read : List ScriptLine) → ((step : ℕ) → at_step step lines ≡ at_step step read) → (left : ℕ) (s : StackState)
+    → stack_run input lines left s ≡ stack_run input read left s
 unfolding machine_run
-run_same lines read h zero s = refl
-run_same lines read h (suc left) s =
-    let move = machine_move memory_meaning memory_flips event_counted [] lines s in
-    ap (λ (r : Run State). ended_or move.ending move.after r) (run_same lines read h left move.after)
-    ∙ ap (λ (m : Move State). ended_or m.ending m.after (machine_run memory_meaning memory_flips event_counted [] read left m.after)) (move_same lines read s (h s.steps))
+run_same input lines read h zero s = refl
+run_same input lines read h (suc left) s =
+    let move = stack_move input lines s in
+    ap (λ (r : Run StackState). ended_or move.ending move.after r) (run_same input lines read h left move.after)
+    ∙ ap (λ (m : Move StackState). ended_or m.ending m.after (stack_run input read left m.after)) (move_same input lines read s (h s.steps))
 
 -- the run is that under the lines as they were read
-pub faulty_same : (image : Bytes) (budget : ℕ) (read script : List ScriptLine) → InRisingSteps read script → faulty_run image budget script ≡ faulty_run image budget read
-faulty_same image budget read script h = run_same script read h.same _ _
+pub faulty_same : (image : Program) (settings : Settings) (input : Bytes) (read script : List ScriptLine) → InRisingSteps read script
+    → faulty_run image settings input script ≡ faulty_run image settings input read
+faulty_same image settings input read script h = run_same input script read h.same _ _
 
--- a machine that is made of an image, and run, keeps to the flat machine
-pub keeps_run : (image : Bytes) (budget : ℕ) (script lines : List ScriptLine) → IsScriptFor ram_words script → InRisingSteps lines script
-    → KeepsToFlat image [] script (machine_made image budget) → KeepsToFlatRun image budget lines
-keeps_run image budget script lines fits rising it =
-    let same = faulty_same image budget lines script rising in
-    let left = left_keeps None image [] script (machine_made image budget) refl fits (omega arith) it in
+-- what the run of a machine shows of the run under the lines as they were read
+pub record Shows (image : Program) (settings : Settings) (input : Bytes) (script : List ScriptLine) (ending : Ending) (s : StackState) : Type 0 where
+  pub ways : s.protected.beyond ≡ None → EndsEitherWay input (flat_start image) script settings.budget ending s
+  pub clear : FlipsEachOnce script → s.protected.beyond ≡ None
+  pub first_way : FlipsEachOnce script → FirstWay (flat_run input settings.budget 0 (flat_start image)) ending s
+
+keeps_shown : (image : Program) (settings : Settings) (input : Bytes) (script lines : List ScriptLine) → InRisingSteps lines script
+    → (let run = faulty_run image settings input script in Shows image settings input script run.ending run.after) → KeepsToFlatRun image settings input lines
+keeps_shown image settings input script lines rising it =
+    let same = faulty_same image settings input lines script rising in
     record {
       script = script;
       rising = rising;
-      ways = subst (λ (run : Run State). run.after.protected.beyond ≡ None → FirstWay (flat_run_of image budget) run.ending run.after ⊎ SecondWay [] (flat_start image) script budget run.ending run.after)
-          same left.ways;
-      clear = subst (λ (run : Run State). FlipsEachOnce script → run.after.protected.beyond ≡ None) same
-          (λ once. left_clear None image [] script (machine_made image budget) refl fits (omega arith) it once refl);
-      first_way = subst (λ (run : Run State). FlipsEachOnce script → FirstWay (flat_run_of image budget) run.ending run.after) same
-          (λ once. left_first image [] script (machine_made image budget) _ fits (omega arith) it once refl refl);
+      ways = subst (λ (run : FaultyRun). run.after.protected.beyond ≡ None → FirstWay (flat_run_of image settings input) run.ending run.after ⊎ SecondWay input (flat_start image) script settings.budget run.ending run.after)
+          same it.ways;
+      clear = subst (λ (run : FaultyRun). FlipsEachOnce script → run.after.protected.beyond ≡ None) same it.clear;
+      first_way = subst (λ (run : FaultyRun). FlipsEachOnce script → FirstWay (flat_run_of image settings input) run.ending run.after) same it.first_way;
     }
 
+-- the state and the ending of a machine that was made and run
+pub run_state : (image : Program) (settings : Settings) (input : Bytes) (script : List ScriptLine) (before after : StackMachine) → before ≡ machine_made image settings
+    → after ≡ machine_left before.ended input script before → after.state ≡ (faulty_run image settings input script).after
+run_state image settings input script before after made left =
+    ap (λ (m : StackMachine). m.state) (left ∙ ap (λ (m : StackMachine). machine_left m.ended input script m) made)
+
+pub run_ending : (image : Program) (settings : Settings) (input : Bytes) (script : List ScriptLine) (before after : StackMachine) (ending : Ending) → before ≡ machine_made image settings
+    → after ≡ machine_left before.ended input script before → after.ended ≡ Some ending → ending ≡ (faulty_run image settings input script).ending
+run_ending image settings input script before after ending made left ended =
+    let same : Some ending ≡ Some (faulty_run image settings input script).ending =
+    sym ended ∙ ap (λ (m : StackMachine). m.ended) (left ∙ ap (λ (m : StackMachine). machine_left m.ended input script m) made) in
+    cc same
+
+-- the report that was written is the run's
+pub run_report : (image : Program) (settings : Settings) (input : Bytes) (script : List ScriptLine) (before after : StackMachine) (ending : Ending) (events : ℕ) (beyond : Option (ℕ × ℕ)) (hart : ArchitecturalState) (report : Bytes)
+    → before ≡ machine_made image settings → after ≡ machine_left before.ended input script before → after.ended ≡ Some ending
+    → events ≡ after.state.protected.log → beyond ≡ after.state.protected.beyond → hart ≡ after.state.hart → report ≡ report_of ending events beyond hart
+    → report ≡ report_in (faulty_run image settings input script)
+run_report image settings input script before after ending events beyond hart report made left ended logged first state is =
+    let run = faulty_run image settings input script in
+    let same : after.state ≡ run.after = run_state image settings input script before after made left in
+    is
+    ∙ ap (λ (e : Ending). report_of e events beyond hart) (run_ending image settings input script before after ending made left ended)
+    ∙ ap (λ (n : ℕ). report_of run.ending n beyond hart) (logged ∙ ap (λ (s : StackState). s.protected.log) same)
+    ∙ ap (λ (b : Option (ℕ × ℕ)). report_of run.ending run.after.protected.log b hart) (first ∙ ap (λ (s : StackState). s.protected.beyond) same)
+    ∙ ap (λ (h : ArchitecturalState). report_of run.ending run.after.protected.log run.after.protected.beyond h) (state ∙ ap (λ (s : StackState). s.hart) same)
+
+-- it shows that run
+pub keeps_run : (image : Program) (settings : Settings) (input : Bytes) (script lines : List ScriptLine) (before after : StackMachine) (ending : Ending) → InRisingSteps lines script
+    → before ≡ machine_made image settings → after ≡ machine_left before.ended input script before → after.ended ≡ Some ending
+    → (after.state.protected.beyond ≡ None → EndsEitherWay input (flat_start image) script before.settings.budget ending after.state)
+    → (before.state.protected.beyond ≡ None → FlipsEachOnce script → after.state.protected.beyond ≡ None)
+    → (before.state.protected.beyond ≡ None → FlipsEachOnce script → FirstWay (flat_run input before.settings.budget 0 (flat_start image)) ending after.state)
+    → KeepsToFlatRun image settings input lines
+keeps_run image settings input script lines before after ending rising made left ended ways clear first =
+    let clean : before.state.protected.beyond ≡ None = ap (λ (m : StackMachine). m.state.protected.beyond) made in
+    let budget : before.settings.budget ≡ settings.budget = ap (λ (m : StackMachine). m.settings.budget) made in
+    let it : Shows image settings input script ending after.state = record {
+      ways = subst (λ (n : ℕ). after.state.protected.beyond ≡ None → EndsEitherWay input (flat_start image) script n ending after.state) budget ways;
+      clear = clear clean;
+      first_way = subst (λ (n : ℕ). FlipsEachOnce script → FirstWay (flat_run input n 0 (flat_start image)) ending after.state) budget (first clean);
+    } in
+    keeps_shown image settings input script lines rising
+    (subst (λ (e : Ending). Shows image settings input script e (faulty_run image settings input script).after) (run_ending image settings input script before after ending made left ended)
+    (subst (λ (s : StackState). Shows image settings input script ending s) (run_state image settings input script before after made left) it))
+
 -- what a run under an accepted script comes to
-pub text_ran : (image : Bytes) (budget : ℕ) (text : Bytes) (script : List ScriptLine) (console report : Bytes) (status : ℕ) (a b : Outside) (code : ℕ)
-    → GivesScript (Ok script) (lines_in ram_words text) → console ≡ (faulty_run image budget script).after.console → report ≡ report_in (faulty_run image budget script)
-    → status ≡ status_of (faulty_run image budget script).ending.stop
-    → Follows a b (record { code = status; actions = Out console ∷ ErrAction report ∷ [] }) code → Follows a b (with_text image budget text) code
-text_ran image budget text script console report status a b code k c r s f =
-    let same : results_of (faulty_run image budget script) ≡ results_of (faulty_run image budget k.0) = ap results_of (faulty_same image budget k.0 script k.2) in
-    let read : results_of (faulty_run image budget k.0) ≡ with_text image budget text = ap (with_lines image budget) (sym k.1) in
-    let written : record { code = status; actions = Out console ∷ ErrAction report ∷ [] } ≡ results_of (faulty_run image budget script) = rw (c, r, s) refl in
-    subst (λ (p : Planned). Follows a b p code) (written ∙ same ∙ read) f
+pub results_are : (image : Program) (settings : Settings) (input : Bytes) (script lines : List ScriptLine) (console report : Bytes) (status : ℕ) (a b : Outside) (code : ℕ)
+    → InRisingSteps lines script → console ≡ (faulty_run image settings input script).after.console → report ≡ report_in (faulty_run image settings input script)
+    → status ≡ status_of (faulty_run image settings input script).ending.stop
+    → Follows a b (record { code = status; actions = Out console ∷ Err report ∷ [] }) code → Follows a b (results_of (faulty_run image settings input lines)) code
+results_are image settings input script lines console report status a b code rising c r s f =
+    let same : results_of (faulty_run image settings input script) ≡ results_of (faulty_run image settings input lines) = ap results_of (faulty_same image settings input lines script rising) in
+    let written : record { code = status; actions = Out console ∷ Err report ∷ [] } ≡ results_of (faulty_run image settings input script) = rw (c, r, s) refl in
+    subst (λ (p : Planned). Follows a b p code) (written ∙ same) f

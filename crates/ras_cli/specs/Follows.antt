@@ -1,6 +1,7 @@
 -- How a call of the program keeps to its plan.
-use Rattle.std.specs.Prelude.{◌≡◌, ◌≢◌, ℕ, List, [], ◌∷◌, ◌++◌, take, ◌⊎◌}
-use Rattle.ras_host.specs.Told.{Outside, Performs, Action, Read, Create, MissCreate, Out, Err}
+use Rattle.std.specs.Prelude.{◌≡◌, ◌≢◌, ℕ, ◌≤◌, List, [], ◌∷◌, ◌++◌, take, ◌⊎◌}
+use Rattle.ras_host.specs.Causes.{Rose}
+use Rattle.ras_host.specs.Told.{Bytes, Outside, Performs, Call, calls_of, Action, Read, Create, MissCreate, Out, Err}
 use Rattle.ras_cli.specs.Plan.{Planned}
 
 -- the action failed: it did a part of what it was to do
@@ -40,6 +41,29 @@ pub record Follows (before after : Outside) (plan : Planned) (code : ℕ) : Type
   pub cut : code ≡ 3 → (done : List Action) × IsCut plan.actions done × Performs before after done
   pub stopped : code ≡ 4 → (after ≡ before) ⊎ ((done : List Action) × IsStopped plan.actions done × Performs before after done)
 
+-- the calls of some actions are the first of the plan's
+pub record IsFront (plan : Planned) (done : List Action) : Type 0 where
+  pub rest : List Call
+  pub front : calls_of plan.actions ≡ calls_of done ++ rest
+
+-- the calls that were made are the first of the plan's; maybe none was
+abbrev pub MakesFront : Outside → Outside → Planned → Type 0
+MakesFront before after plan = (after ≡ before) ⊎ ((done : List Action) × IsFront plan done × Performs before after done)
+
 -- nothing but reads was done
 abbrev pub OnlyReads : Outside → Outside → Type 0
 OnlyReads before after = (after ≡ before) ⊎ ((done : List Action) × AreReads done × Performs before after done)
+
+-- reads were made, and then bytes were written to standard error, by one call
+abbrev pub WritesLine : Outside → Outside → Type 0
+WritesLine before after = (reads : List Action) × (line : Bytes) × AreReads reads × Performs before after (reads ++ Err line ∷ [])
+
+-- How a run ends over any host that counts its faults, before and now: with 2 one line was written, with 4 nothing, and
+-- with 3 a fault was counted.
+pub record RunEnds (before after : Outside) (faults now code : ℕ) : Type 0 where
+  pub range : code ≤ 5
+  pub words : code ≢ 1
+  pub refused : code ≡ 2 → WritesLine before after
+  pub unwritten : code ≡ 4 → OnlyReads before after
+  pub later : faults ≤ now
+  pub cause : code ≡ 3 → Rose faults now

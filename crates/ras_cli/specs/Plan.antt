@@ -1,20 +1,24 @@
 -- What a call of the program is to do: the host calls that it makes, and its status.
-use Rattle.std.specs.Prelude.{ℕ, cond, nat_lt, List, [], ◌∷◌, length, Option, Some, None, Result, Ok, codes}
+use Rattle.std.specs.Prelude.{ℕ, cond, nat_lt, List, [], ◌∷◌, ◌++◌, length, Option, Some, None, Result, Ok}
 use Rattle.std.specs.Prelude.{Err as Error}
-use Rattle.poison_mem.specs.declared.cell.CellState.{CellState}
+use Rattle.elf_load.specs.Program.{Program, image_of}
+use Rattle.elf_load.specs.declared.refusals.ElfRefused.{ElfRefused}
+use Rattle.elf_load.specs.declared.refusals.ElfRefused.TheVariants as refused
 use Rattle.fault_script.specs.Script.{lines_in}
 use Rattle.fault_script.specs.declared.lines.ScriptLine.{ScriptLine}
 use Rattle.fault_script.specs.declared.lines.ScriptError.{ScriptError}
 use Rattle.fault_script.specs.declared.lines.ScriptError.TheVariants as errors
 use Rattle.ras_host.specs.Told.{Bytes, Action, Read, Out, Err, File, bytes_of}
-use Rattle.ras_machine.specs.Runs as runs
+use Rattle.ras_machine.specs.Settings.{ram_words}
 use Rattle.ras_machine.specs.declared.ending.Stop.{Stop}
-use Rattle.ras_machine.specs.declared.flat.TheConstants.{RAM_WORDS}
-use Rattle.ras_machine.specs.declared.ending.Stop.TheVariants.{Shutdown, Reboot, Budget, ConsoleFull, Consumed, NotBuilt}
-use Rattle.ras_machine.specs.declared.state.MachineState.{MachineState}
-use Rattle.ras_cli.specs.Report.{report_of, script_refused}
-use Rattle.ras_cli.specs.Runs.{faulty_run}
-use Rattle.ras_cli.specs.Words.{Run, run_of}
+use Rattle.ras_machine.specs.declared.ending.Stop.TheVariants.{Shutdown, Reboot, Budget, ConsoleFull, Consumed}
+use Rattle.ras_machine.specs.declared.settings.Settings.{Settings}
+use Rattle.ras_words.specs.Run.{Run, run_of}
+use Rattle.ras_cli.specs.Refusals.{usage, image_too_long, script_too_long, input_too_long, image_refused, script_refused}
+use Rattle.ras_cli.specs.Report.{report_of}
+use Rattle.ras_cli.specs.Runs.{FaultyRun, faulty_run}
+
+-- ---- plans
 
 -- the host calls of a plan in which none fails, and its status
 pub record Planned : Type 0 where
@@ -26,43 +30,71 @@ pub data Plan : Type 0 where
   Finish : (writes : Planned) → Plan
   Reading : (name : Bytes) → (limit : ℕ) → (longer : Plan) → (whole : Bytes → Plan) → Plan
 
--- a read, and then the rest
-abbrev pub read_then : Bytes → ℕ → Planned → Planned
-read_then name limit rest = record { code = rest.code; actions = Read name limit ∷ rest.actions }
+-- some calls, and then the rest
+abbrev pub calls_then : List Action → Planned → Planned
+calls_then actions rest = record { code = rest.code; actions = actions ++ rest.actions }
 
 -- what a plan comes to over these files
 abbrev pub carried_out : Plan → List File → Planned
 carried_out (Finish writes) files = writes
-carried_out (Reading name limit longer whole) files = read_then name limit (cond (nat_lt limit (length (bytes_of files name)))
+carried_out (Reading name limit longer whole) files = calls_then (Read name limit ∷ []) (cond (nat_lt limit (length (bytes_of files name)))
     (carried_out longer files) (carried_out (whole (bytes_of files name)) files))
 
 -- a last line, and the status that the program ends with
 abbrev pub line_written : ℕ → Bytes → Planned
 line_written code line = record { code = code; actions = Err line ∷ [] }
 
--- the line for words that ask for nothing
-abbrev pub usage : Bytes
-usage = codes "usage: ras run IMAGE BUDGET [SCRIPT]\n"
+-- a file that an option names is read; without the option it is empty
+abbrev pub reading_named : Option Bytes → ℕ → Plan → (Bytes → Plan) → Plan
+reading_named None limit longer whole = whole []
+reading_named (Some name) limit longer whole = Reading name limit longer whole
 
--- how many words of 8 bytes the machine's RAM has: 16 MiB
-abbrev pub ram_words : ℕ
-ram_words = RAM_WORDS
+-- ---- what a run asks for
 
--- the most bytes of an image: the RAM's
+-- its settings
+abbrev pub settings_of : Run → Settings
+settings_of run = record { ram_mib = run.ram_mib; poll = 0; patrol = 0; budget = run.budget }
+
+-- how many words of 8 bytes its RAM has
+abbrev pub words_of : Run → ℕ
+words_of run = ram_words (settings_of run)
+
+-- ---- what is read, in this order
+
+-- the most bytes of an image
 abbrev pub image_limit : ℕ
-image_limit = 16777216
-
--- the line for an image that is longer
-abbrev pub image_too_long : Plan
-image_too_long = Finish (line_written 2 (codes "ras: image too long: limit 16777216\n"))
+image_limit = 83886080
 
 -- the most bytes of a script
 abbrev pub script_limit : ℕ
 script_limit = 4194304
 
--- the line for a script that is longer
-abbrev pub script_too_long : Plan
-script_too_long = Finish (line_written 2 (codes "ras: script too long: limit 4194304\n"))
+-- the most bytes of an input
+abbrev pub input_limit : ℕ
+input_limit = 16777216
+
+-- an image that is accepted, or the line of its refusal; reading bytes never wants memory
+abbrev pub with_image : Result Program ElfRefused → (Program → Plan) → Plan
+with_image (Ok image) next = next image
+with_image (Error refused.NoMemory) next = Finish (record { code = 4; actions = [] })
+with_image (Error refusal) next = Finish (line_written 2 (image_refused refusal))
+
+abbrev pub reading_image : Run → (Program → Plan) → Plan
+reading_image run next = Reading run.image image_limit (Finish (line_written 2 image_too_long)) (λ bytes. with_image (image_of run.raw bytes (words_of run)) next)
+
+-- the lines of a script that is accepted, or the line of its refusal; reading a text never wants memory
+abbrev pub with_lines : Result (List ScriptLine) ScriptError → (List ScriptLine → Plan) → Plan
+with_lines (Ok lines) next = next lines
+with_lines (Error (errors.Refused line why)) next = Finish (line_written 2 (script_refused line why))
+with_lines (Error errors.NoMemory) next = Finish (record { code = 4; actions = [] })
+
+abbrev pub reading_script : Run → (List ScriptLine → Plan) → Plan
+reading_script run next = reading_named run.script script_limit (Finish (line_written 2 script_too_long)) (λ text. with_lines (lines_in (words_of run) text) next)
+
+abbrev pub reading_input : Run → (Bytes → Plan) → Plan
+reading_input run next = reading_named run.input input_limit (Finish (line_written 2 input_too_long)) next
+
+-- ---- what comes of it
 
 -- the status of a run that stopped so: 5 where it met poison
 abbrev pub status_of : Stop → ℕ
@@ -71,35 +103,20 @@ status_of (Reboot reboot_kind) = 0
 status_of Budget = 0
 status_of ConsoleFull = 0
 status_of (Consumed w use_kind pc) = 5
-status_of NotBuilt = 0
 
 -- the report of a run
-abbrev pub report_in : runs.Run (MachineState (List CellState) ℕ) → Bytes
-report_in run = report_of run.ending run.after.protected.log run.after.protected.beyond
+abbrev pub report_in : FaultyRun → Bytes
+report_in run = report_of run.ending run.after.protected.log run.after.protected.beyond run.after.hart
 
 -- the console to standard output, then the report to standard error
-abbrev pub results_of : runs.Run (MachineState (List CellState) ℕ) → Planned
+abbrev pub results_of : FaultyRun → Planned
 results_of run = record { code = status_of run.ending.stop; actions = Out run.after.console ∷ Err (report_in run) ∷ [] }
-
--- the run under the lines of a script that was accepted, or the line of its refusal; reading a text never wants memory
-abbrev pub with_lines : Bytes → ℕ → Result (List ScriptLine) ScriptError → Planned
-with_lines image budget (Ok lines) = results_of (faulty_run image budget lines)
-with_lines image budget (Error (errors.Refused line why)) = line_written 2 (script_refused line why)
-with_lines image budget (Error errors.NoMemory) = record { code = 4; actions = [] }
-
--- what comes of an image and the text of a script
-abbrev pub with_text : Bytes → ℕ → Bytes → Planned
-with_text image budget text = with_lines image budget (lines_in ram_words text)
-
--- once the image is read, the script is read, where one is named
-abbrev pub with_image : ℕ → Option Bytes → Bytes → Plan
-with_image budget None image = Finish (with_text image budget [])
-with_image budget (Some name) image = Reading name script_limit script_too_long (λ text. Finish (with_text image budget text))
 
 -- the plan of a run that the words ask for; where they ask for none, the usage line is written
 abbrev pub plan_of : Option Run → Plan
 plan_of None = Finish (line_written 1 usage)
-plan_of (Some run) = Reading run.image image_limit image_too_long (with_image run.budget run.script)
+plan_of (Some run) = reading_image run (λ image. reading_script run (λ lines. reading_input run (λ input.
+    Finish (results_of (faulty_run image (settings_of run) input lines)))))
 
 -- the host calls and the status that these words ask for over these files
 abbrev pub planned_by : List Bytes → List File → Planned

@@ -1,16 +1,18 @@
 //! The run of an image under a script.
 
-ghost use Rattle.std.specs.Prelude.{◌≡◌, ◌≤◌, ◌⊎◌, IfOk, List, length};
+ghost use Rattle.std.specs.Prelude.{◌≡◌, ◌⊎◌, IfOk, List, length};
 ghost use Rattle.fault_script.specs.Fits.{IsScriptFor};
 ghost use Rattle.fault_script.specs.Steps.{InRisingSteps};
 ghost use Rattle.fault_script.specs.declared.lines.ScriptLine.{ScriptLine};
-ghost use Rattle.ras_cli.specs.Plan.{ram_words, status_of, report_in};
+ghost use Rattle.ras_machine.specs.Settings.{IsInRange, ram_words};
+ghost use Rattle.ras_cli.specs.Plan.{status_of, report_in};
 ghost use Rattle.ras_cli.specs.Runs.{faulty_run, KeepsToFlatRun};
 
-use crate::report::{Line, report};
-use fault_script::Script;
+use crate::inputs::Inputs;
+use crate::report::report;
+use crate::text::Text;
 use ras_bits::NoMemory;
-use ras_machine::{Machine, Stop};
+use ras_machine::{Machine, Settings, Stop};
 use std::alloc::Global;
 
 /// What a run leaves: the machine with its console, the status for its ending, and the report.
@@ -18,7 +20,7 @@ use std::alloc::Global;
 pub struct Results {
     pub machine: Machine,
     pub code: u8,
-    pub report: Line,
+    pub report: Text,
 }
 
 // The status of a run that stopped so: 5 where it met poison.
@@ -32,30 +34,24 @@ fn status_of(stop: Stop) -> u8
         Stop::Budget => 0,
         Stop::ConsoleFull => 0,
         Stop::Consumed { .. } => 5,
-        Stop::NotBuilt => 0,
     }
 }
 
-/// Runs an image of at most 16,777,216 bytes under a script, without input.
-///
-/// All memory is taken before the run.
-pub fn run_machine(
-    alloc: Global,
-    image: &[u8],
-    budget: u64,
-    script: &Script,
-) -> Result<Results, NoMemory>
-    requires image { length image.now ≤ 16777216 }
-    requires script { IsScriptFor ram_words script.now }
-    ensures console { IfOk result (λ results. results.machine.state.console ≡ (faulty_run image.now budget script.now).after.console) }
-    ensures report { IfOk result (λ results. results.report.items ≡ report_in (faulty_run image.now budget script.now)) }
-    ensures code { IfOk result (λ results. results.code ≡ status_of (faulty_run image.now budget script.now).ending.stop) }
+/// Runs an image under a script. All memory is taken before the run.
+pub fn run_machine(alloc: Global, inputs: &Inputs, settings: &Settings) -> Result<Results, NoMemory>
+    requires range { IsInRange settings.now }
+    requires ram { length inputs.now.image.words ≡ ram_words settings.now }
+    requires script { IsScriptFor (ram_words settings.now) inputs.now.script }
+    ensures console { IfOk result (λ results. results.machine.state.console ≡ (faulty_run inputs.now.image settings.now inputs.now.input.items inputs.now.script).after.console) }
+    ensures report { IfOk result (λ results. results.report.items ≡ report_in (faulty_run inputs.now.image settings.now inputs.now.input.items inputs.now.script)) }
+    ensures code { IfOk result (λ results. results.code ≡ status_of (faulty_run inputs.now.image settings.now inputs.now.input.items inputs.now.script).ending.stop) }
     ensures either { IfOk result (λ results. (results.code ≡ 0) ⊎ (results.code ≡ 5)) }
-    ensures keeps { IfOk result (λ results. (lines : List ScriptLine) → InRisingSteps lines script.now → KeepsToFlatRun image.now budget lines) }
+    ensures keeps { IfOk result (λ results. (lines : List ScriptLine) → InRisingSteps lines inputs.now.script
+        → KeepsToFlatRun inputs.now.image settings.now inputs.now.input.items lines) }
 {
-    let mut machine = Machine::make(alloc, image, budget)?;
-    let ending = machine.run(&[], script);
-    let report = report(&ending, machine.events(), machine.beyond());
+    let mut machine = Machine::make(alloc, &inputs.image, settings)?;
+    let ending = machine.run(inputs.input.as_slice(), &inputs.script);
+    let report = report(&ending, machine.events(), machine.beyond(), machine.hart());
     Ok(Results {
         machine,
         code: status_of(ending.stop),

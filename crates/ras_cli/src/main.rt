@@ -3,23 +3,34 @@
 //! `main` takes the words of the command line and makes the host. All else is `ras_main`.
 #![tactic(auto)]
 
+#[cfg(test)]
+mod file_tests;
+#[cfg(test)]
+mod guest_tests;
+mod inputs;
 mod machine;
+mod refusals;
 mod report;
+mod settings;
 mod status;
 #[cfg(test)]
 mod tests;
+mod text;
 mod top;
-mod words;
+mod writes;
 
 use crate::top::ras_main;
 use ras_host::RealHost;
 use std::env;
+use std::io::ErrorKind;
 use std::process::ExitCode;
 
 fn main(rt: HostRuntime) -> ExitCode {
     let alloc = rt.alloc();
-    let Ok(args) = env::args(&rt) else {
-        return ExitCode::from(3);
+    let args = match env::args(&rt) {
+        Ok(args) => args,
+        Err(error) if error.kind() == ErrorKind::OutOfMemory => return ExitCode::from(4),
+        Err(_) => return ExitCode::from(3),
     };
     let words: Vec<String> = match args.skip(1).collect(alloc) {
         Ok(words) => words,

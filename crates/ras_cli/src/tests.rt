@@ -27,13 +27,15 @@ const STORE_BYTE: [u32; 8] = [
     0x00000297, 0x04800513, 0x04A28023, 0x0402B503, 0x00100893, 0x00000073, 0x00800893, 0x00000073,
 ];
 
-const FILES: [(&str, &[u32]); 6] = [
+const USAGE: &str =
+    "usage: ras run|compare IMAGE [options] | ras debug IMAGE COMMANDS [options] | ras read FILE | ras demo NUMBER\n";
+
+const FILES: [(&str, &[u32]); 5] = [
     ("hello", &HELLO),
     ("loop", &LOOP),
     ("load", &LOAD),
     ("store", &STORE),
     ("store_byte", &STORE_BYTE),
-    ("zero", &[0]),
 ];
 
 const SCRIPTS: [(&str, &str); 11] = [
@@ -83,121 +85,103 @@ fn words_of(alloc: Global, line: &str) -> Result<Vec<String>, NoMemory> {
     Ok(words)
 }
 
+// The status of a call, with what it wrote.
+fn called(alloc: Global, line: &str) -> Result<(u8, MemoryHost), NoMemory> {
+    let mut host = host_of(alloc)?;
+    let words = words_of(alloc, line)?;
+    let status = ras_main(alloc, words.as_slice(), &mut host);
+    Ok((status.code, host))
+}
+
 #[test]
 fn runs_images(rt: HostRuntime) -> Result<(), Fail> {
-    let alloc = rt.alloc();
     for (line, code, out, err) in [
         (
-            "run hello 100",
+            "run hello --raw --budget 100",
             0,
             "H",
-            "stop=shutdown:0 steps=5 events=0 beyond=none\n",
+            "stop=shutdown:0 steps=5 events=0 beyond=none\nregs pc=0x0000000080000014 x17=0x0000000000000008\n",
         ),
         (
-            "run hello 0x10 empty",
+            "run --budget=0x10 --script=empty --raw --ram-mib 1 -- hello",
             0,
             "H",
-            "stop=shutdown:0 steps=5 events=0 beyond=none\n",
+            "stop=shutdown:0 steps=5 events=0 beyond=none\nregs pc=0x0000000080000014 x17=0x0000000000000008\n",
         ),
         (
-            "run hello 0",
+            "run hello --raw --budget 0 --ram-mib 1",
             0,
             "",
-            "stop=budget steps=0 events=0 beyond=none\n",
+            "stop=budget steps=0 events=0 beyond=none\nregs pc=0x0000000080000000\n",
         ),
         (
-            "run hello 3",
+            "run hello --raw --budget 3 --ram-mib 1",
             0,
             "H",
             "stop=budget steps=3 events=0 beyond=none\n",
         ),
         (
-            "run loop 7",
+            "run loop --raw --budget 7 --input empty --ram-mib 1",
             0,
             "",
-            "stop=budget steps=7 events=0 beyond=none\n",
+            "stop=budget steps=7 events=0 beyond=none\nregs pc=0x0000000080000000\n",
         ),
         (
-            "run zero 1000000000",
-            0,
-            "",
-            "stop=not-built steps=0 events=0 beyond=none\n",
-        ),
-        (
-            "run hello 100 once",
+            "run hello --raw --script once --ram-mib 1",
             0,
             "H",
-            "stop=shutdown:0 steps=5 events=2 beyond=none\n",
+            "stop=shutdown:0 steps=5 events=1 beyond=none\n",
         ),
         (
-            "run hello 100 blanks",
-            0,
-            "H",
-            "stop=shutdown:0 steps=5 events=2 beyond=none\n",
-        ),
-        (
-            "run hello 100 twice",
+            "run hello --raw --script twice --ram-mib 1",
             5,
             "",
-            "stop=consumed:0x0000000080000008:fetch:0x0000000080000008 steps=2 events=1 beyond=none\n",
+            "stop=consumed:0x0000000080000008:fetch:0x0000000080000008 steps=2 ",
         ),
         (
-            "run hello 100 later",
-            5,
-            "",
-            "stop=consumed:0x0000000080000008:fetch:0x0000000080000008 steps=2 events=1 beyond=none\n",
-        ),
-        (
-            "run hello 100 undone",
+            "run hello --raw --script later --ram-mib 1",
             0,
             "H",
             "stop=shutdown:0 steps=5 events=0 beyond=none\n",
         ),
         (
-            "run load 100 thrice",
+            "run hello --raw --script undone --ram-mib 1",
+            0,
+            "H",
+            "stop=shutdown:0 steps=5 events=0 beyond=none\n",
+        ),
+        (
+            "run load --raw --script thrice --ram-mib 1",
             0,
             "\x07",
             "stop=shutdown:0 steps=6 events=1 beyond=0:0x0000000080000040\n",
         ),
         (
-            "run store 100 healed",
+            "run load --raw --ram-mib 1",
+            0,
+            "\0",
+            "stop=shutdown:0 steps=6 ",
+        ),
+        (
+            "run store --raw --script healed --ram-mib 1",
             0,
             "H",
-            "stop=shutdown:0 steps=8 events=1 beyond=none\n",
+            "stop=shutdown:0 steps=8 ",
         ),
         (
-            "run store_byte 100 healed",
+            "run store_byte --raw --script healed --ram-mib 1",
             5,
             "",
-            "stop=consumed:0x0000000080000040:load:0x000000008000000c steps=3 events=1 beyond=none\n",
+            "stop=consumed:0x0000000080000040:load:0x000000008000000c steps=3 ",
         ),
-        (
-            "run hello 100 half",
-            2,
-            "",
-            "ras: script refused: line 1: address\n",
-        ),
-        (
-            "run hello 100 past",
-            2,
-            "",
-            "ras: script refused: line 1: bit\n",
-        ),
-        (
-            "run hello 100 wrong",
-            2,
-            "",
-            "ras: script refused: line 2: word\n",
-        ),
-        ("run missing 7", 3, "", ""),
-        ("run hello 7 missing", 3, "", ""),
+        ("run missing --raw --ram-mib 1", 3, "", ""),
+        ("run hello --raw --script missing --ram-mib 1", 3, "", ""),
+        ("run hello --raw --input missing --ram-mib 1", 3, "", ""),
     ] {
-        let mut host = host_of(alloc)?;
-        let words = words_of(alloc, line)?;
-        let status = ras_main(alloc, words.as_slice(), &mut host);
-        assert_eq!(rt; status.code, code, "{line}");
+        let (status, host) = called(rt.alloc(), line)?;
+        assert_eq!(rt; status, code, "{line}");
         assert!(rt; host.written_out() == out.as_bytes(), "{line}");
-        assert!(rt; host.written_err() == err.as_bytes(), "{line}");
+        assert!(rt; host.written_err().starts_with(err.as_bytes()), "{line}");
     }
     Ok(())
 }
@@ -207,93 +191,52 @@ fn runs_over_a_host_that_never_fails(rt: HostRuntime) -> Result<(), Fail> {
     let alloc = rt.alloc();
     let mut host = SteadyHost::make(alloc, 4096)?;
     host.add_file("hello", image_of(alloc, &HELLO)?.as_slice())?;
-    let words = words_of(alloc, "run hello 100")?;
+    let words = words_of(alloc, "run hello --raw --budget 100")?;
     let status = ras_main(alloc, words.as_slice(), &mut host);
     assert_eq!(rt; status.code, 0);
     assert!(rt; host.written_out() == b"H".as_slice());
-    assert!(rt; host.written_err() == b"stop=shutdown:0 steps=5 events=0 beyond=none\n".as_slice());
+    assert!(rt;
+        host.written_err()
+            == b"stop=shutdown:0 steps=5 events=0 beyond=none\nregs pc=0x0000000080000014 x17=0x0000000000000008\n".as_slice()
+    );
     Ok(())
 }
 
 #[test]
-fn refuses_words(rt: HostRuntime) -> Result<(), Fail> {
-    let alloc = rt.alloc();
-    for line in [
-        "",
-        "run",
-        "run hello",
-        "run hello 7 once 7",
-        "walk hello 7",
-        "run hello -1",
-        "run hello 0x",
-        "run hello 1000000001",
-        "run hello ",
-        "run hello 7 ",
-        "run  7",
-        "run hello 1111111111111111111111111111111111111111",
-    ] {
-        let mut host = host_of(alloc)?;
-        let words = words_of(alloc, line)?;
-        let status = ras_main(alloc, words.as_slice(), &mut host);
-        assert_eq!(rt; status.code, 1, "{line}");
-        assert!(rt; host.written_out().is_empty(), "{line}");
-        assert!(rt;
-            host.written_err() == b"usage: ras run IMAGE BUDGET [SCRIPT]\n".as_slice(),
-            "{line}"
-        );
-        assert_eq!(rt; host.calls(), 1, "{line}");
-    }
-    let mut host = host_of(alloc)?;
-    let status = ras_main(alloc, &[], &mut host);
-    assert_eq!(rt; status.code, 1);
-    Ok(())
-}
-
-// The status and standard error of a run of `hello` under a script, which writes nothing else.
-fn refusal_of(alloc: Global, script: &[u8]) -> Result<(u8, usize, MemoryHost), NoMemory> {
-    let mut host = host_of(alloc)?;
-    host.add_file("script", script)?;
-    let words = words_of(alloc, "run hello 7 script")?;
-    let status = ras_main(alloc, words.as_slice(), &mut host);
-    let written = host.written_out().len();
-    Ok((status.code, written, host))
-}
-
-#[test]
-fn refuses_scripts(rt: HostRuntime) -> Result<(), Fail> {
-    let alloc = rt.alloc();
-    for (script, err) in [
-        ("# a\0b\n", "ras: script refused: line 1: bytes\n"),
-        ("\n\r\nflop 0\n", "ras: script refused: line 3: word\n"),
-        ("flip\n", "ras: script refused: line 1: count\n"),
+fn refuses(rt: HostRuntime) -> Result<(), Fail> {
+    for (line, code, err) in [
+        ("run", 1, USAGE),
+        ("walk hello", 1, USAGE),
+        ("run hello --poll 1", 1, USAGE),
+        ("run hello 100", 1, USAGE),
+        ("compare hello", 1, USAGE),
+        ("run empty", 2, "ras: image refused: short\n"),
         (
-            "scrub 18446744073709551616 0x80000000\n",
-            "ras: script refused: line 1: number\n",
+            "run once --raw --script hello",
+            2,
+            "ras: script refused: line 1: bytes\n",
         ),
         (
-            "scrub 1000000001 0x80000000\n",
-            "ras: script refused: line 1: step\n",
-        ),
-        (
-            "\tscrub\t0\t0x81000000\t\r\n",
+            "run hello --raw --script half",
+            2,
             "ras: script refused: line 1: address\n",
         ),
         (
-            "flip 0 0x80000000 71\nflip 0 0x80000000 72\n",
-            "ras: script refused: line 2: bit\n",
+            "run hello --raw --script past",
+            2,
+            "ras: script refused: line 1: bit\n",
+        ),
+        (
+            "run hello --raw --script wrong",
+            2,
+            "ras: script refused: line 2: word\n",
         ),
     ] {
-        let (code, written, host) = refusal_of(alloc, script.as_bytes())?;
-        assert_eq!(rt; (code, written), (2, 0), "{script}");
-        assert!(rt; host.written_err() == err.as_bytes(), "{script}");
+        let (status, host) = called(rt.alloc(), line)?;
+        assert_eq!(rt; status, code, "{line}");
+        assert!(rt; host.written_out().is_empty(), "{line}");
+        assert!(rt; host.written_err() == err.as_bytes(), "{line}");
     }
-    let mut long = Vec::new(alloc);
-    for _ in 0..65_537 {
-        long.extend_from_slice(b"scrub 0 0x80000000\n")?;
-    }
-    let (code, written, host) = refusal_of(alloc, long.as_slice())?;
-    assert_eq!(rt; (code, written), (2, 0));
-    assert!(rt; host.written_err() == b"ras: script refused: line 65537: toomany\n".as_slice());
     Ok(())
 }
 
@@ -302,14 +245,24 @@ fn refuses_long_files(rt: HostRuntime) -> Result<(), Fail> {
     let alloc = rt.alloc();
     for (line, len, err) in [
         (
-            "run long 7",
-            16_777_217,
-            "ras: image too long: limit 16777216\n",
+            "run long",
+            83_886_081,
+            "ras: image too long: limit 83886080\n",
         ),
         (
-            "run hello 7 long",
+            "run long --raw --ram-mib 1",
+            1_048_577,
+            "ras: image refused: outside segment 0\n",
+        ),
+        (
+            "run hello --raw --script long",
             4_194_305,
             "ras: script too long: limit 4194304\n",
+        ),
+        (
+            "run hello --raw --input long",
+            16_777_217,
+            "ras: input too long: limit 16777216\n",
         ),
     ] {
         let mut host = host_of(alloc)?;

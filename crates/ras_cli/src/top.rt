@@ -1,169 +1,105 @@
 //! The top call of the program.
 
-ghost use Rattle.std.specs.Prelude.{◌≡◌, ◌≢◌, ◌≤◌, ◌⊎◌, ℕ, List, Ok, Some, None, [], ◌∷◌, map, option_map, length, IfSome, string_bytes};
-ghost use Rattle.fault_script.specs.Script.{lines_in};
+ghost use Rattle.std.specs.Prelude.{◌≡◌, ◌≢◌, ◌≤◌, ◌⊎◌, List, Some, None, [], ◌∷◌, length, IfSome};
+ghost use Rattle.fault_script.specs.Fits.{IsScriptFor};
+ghost use Rattle.fault_script.specs.Steps.{InRisingSteps};
 ghost use Rattle.fault_script.specs.declared.lines.ScriptLine.{ScriptLine};
 ghost use Rattle.ras_host.specs.Causes.{Rose};
-ghost use Rattle.ras_host.specs.Told.{Performs, Out, Err, bytes_of};
-ghost use Rattle.ras_cli.specs.Words.{run_of};
-ghost use Rattle.ras_cli.specs.WordsCode.{run_in};
-ghost use Rattle.ras_cli.specs.Plan.{Planned, Finish, carried_out, plan_of, planned_by, line_written, with_image, with_text, usage, ram_words};
-ghost use Rattle.ras_cli.specs.Follows.{Follows, OnlyReads};
-ghost use Rattle.ras_cli.specs.Headline.{Headline, KeepsWith};
-ghost use Rattle.ras_cli.specs.Runs.{KeepsToFlatRun};
+ghost use Rattle.ras_host.specs.Told.{Performs, Err};
+ghost use Rattle.ras_machine.specs.Settings.{IsInRange, ram_words};
+ghost use Rattle.ras_words.specs.Run.{run_of};
+ghost use Rattle.ras_words.specs.Texts.{texts_of, run_in, IsInLimits};
+ghost use Rattle.ras_cli.specs.Refusals.{usage};
+ghost use Rattle.ras_cli.specs.Plan.{carried_out, plan_of, planned_by, results_of};
+ghost use Rattle.ras_cli.specs.Runs.{faulty_run, KeepsToFlatRun};
+ghost use Rattle.ras_cli.specs.Follows.{Follows, MakesFront, OnlyReads, WritesLine, RunEnds};
+ghost use Rattle.ras_cli.specs.Headline.{Completes, Headline};
 
-use crate::machine::{Results, run_machine};
-use crate::report::script_refused;
+use crate::inputs::{Inputs, read_inputs};
+use crate::machine::run_machine;
+use crate::refusals::USAGE;
+use crate::settings::settings_of;
 use crate::status::Status;
-use crate::words::{Run, read_words};
-use fault_script::{Script, ScriptError};
-use ras_host::{Got, Host, HostError};
-use ras_machine::RAM_WORDS;
+use crate::writes::{write_last, write_results};
+use ras_host::Host;
+use ras_machine::Settings;
+use ras_words::{RunWords, WordsError, read_words};
 use std::alloc::Global;
 
-/// The most bytes of an image.
-const IMAGE_LIMIT: u64 = 16_777_216;
-
-/// The most bytes of a script.
-const SCRIPT_LIMIT: u64 = 4_194_304;
-
-const USAGE: &[u8] = b"usage: ras run IMAGE BUDGET [SCRIPT]\n";
-
-const IMAGE_TOO_LONG: &[u8] = b"ras: image too long: limit 16777216\n";
-
-const SCRIPT_TOO_LONG: &[u8] = b"ras: script too long: limit 4194304\n";
-
-// Writes a last line to standard error, after which the program ends with `code`.
-fn write_last<H: Host>(host: &mut H, code: u8, line: &[u8]) -> Status
-    requires failed { code ≢ 3 }
-    requires memory { code ≢ 4 }
-    ensures follows { Follows (H.told host.old) (H.told host.new) (line_written code line.now) result.code }
-    ensures code { (result.code ≡ code) ⊎ (result.code ≡ 3) }
-    ensures later { H.faults host.old ≤ H.faults host.new }
-    ensures cause { result.code ≡ 3 → Rose (H.faults host.old) (H.faults host.new) }
+// Runs what was read, and writes what comes of it.
+fn run_inputs<H: Host>(alloc: Global, inputs: &Inputs, settings: &Settings, host: &mut H) -> Status
+    requires range { IsInRange settings.now }
+    requires ram { length inputs.now.image.words ≡ ram_words settings.now }
+    requires script { IsScriptFor (ram_words settings.now) inputs.now.script }
+    ensures follows { (lines : List ScriptLine) → InRisingSteps lines inputs.now.script
+        → Follows (H.told host.old) (H.told host.new) (results_of (faulty_run inputs.now.image settings.now inputs.now.input.items lines)) result.code }
+    ensures keeps { (lines : List ScriptLine) → InRisingSteps lines inputs.now.script → result.code ≢ 4
+        → KeepsToFlatRun inputs.now.image settings.now inputs.now.input.items lines }
+    ensures ends { RunEnds (H.told host.old) (H.told host.new) (H.faults host.old) (H.faults host.new) result.code }
 {
-    match host.err(line) {
-        Ok(()) => Status { code },
-        Err(_) => Status::FAILED,
-    }
-}
-
-// Writes the console and the report.
-fn write_results<H: Host>(host: &mut H, results: &Results) -> Status
-    requires { (results.now.code ≡ 0) ⊎ (results.now.code ≡ 5) }
-    ensures follows { Follows (H.told host.old) (H.told host.new)
-        (record { code = results.now.code; actions = Out results.now.machine.state.console ∷ Err results.now.report.items ∷ [] }) result.code }
-    ensures code { (result.code ≡ results.now.code) ⊎ (result.code ≡ 3) }
-    ensures later { H.faults host.old ≤ H.faults host.new }
-    ensures cause { result.code ≡ 3 → Rose (H.faults host.old) (H.faults host.new) }
-{
-    match host.out(results.machine.console()) {
-        Ok(()) => write_last(host, results.code, results.report.as_slice()),
-        Err(_) => Status::FAILED,
-    }
-}
-
-// Runs an image under the script that a text is, and writes what comes of it.
-fn run_text<H: Host>(alloc: Global, image: &[u8], budget: u64, text: &[u8], host: &mut H) -> Status
-    requires image { length image.now ≤ 16777216 }
-    requires text { length text.now ≤ 4194304 }
-    ensures follows { Follows (H.told host.old) (H.told host.new) (with_text image.now budget text.now) result.code }
-    ensures keeps { (lines : List ScriptLine) → lines_in ram_words text.now ≡ Ok lines → result.code ≢ 3 → result.code ≢ 4 → KeepsToFlatRun image.now budget lines }
-    ensures codes { result.code ≤ 5 }
-    ensures words { result.code ≢ 1 }
-    ensures unwritten { result.code ≡ 4 → H.told host.new ≡ H.told host.old }
-    ensures later { H.faults host.old ≤ H.faults host.new }
-    ensures cause { result.code ≡ 3 → Rose (H.faults host.old) (H.faults host.new) }
-{
-    let script = match Script::read(alloc, text, RAM_WORDS) {
-        Ok(script) => script,
-        Err(ScriptError::Refused { line, why }) => {
-            return write_last(host, 2, script_refused(line, why).as_slice());
-        }
-        Err(ScriptError::NoMemory) => return Status::NO_MEMORY,
-    };
-    match run_machine(alloc, image, budget, &script) {
-        Ok(results) => write_results(host, &results),
+    match run_machine(alloc, inputs, settings) {
+        Ok(results) => write_results(
+            host,
+            results.code,
+            results.machine.console(),
+            results.report.as_slice(),
+        ),
         Err(_) => Status::NO_MEMORY,
     }
 }
 
-// Reads the script, where one is named, and runs the image under it.
-fn run_script<H: Host>(
-    alloc: Global,
-    image: &[u8],
-    budget: u64,
-    script: Option<&str>,
-    host: &mut H,
-) -> Status
-    requires { length image.now ≤ 16777216 }
-    ensures follows { IfSome (H.told host.old).files (λ files. Follows (H.told host.old) (H.told host.new)
-        (carried_out (with_image budget (option_map (λ name. name.now) script.entry) image.now) files) result.code) }
-    ensures keeps { IfSome (H.told host.old).files (λ files. KeepsWith files image.now budget (option_map (λ name. name.now) script.entry) result.code) }
-    ensures codes { result.code ≤ 5 }
-    ensures words { result.code ≢ 1 }
-    ensures unwritten { result.code ≡ 4 → OnlyReads (H.told host.old) (H.told host.new) }
-    ensures later { H.faults host.old ≤ H.faults host.new }
-    ensures cause { result.code ≡ 3 → Rose (H.faults host.old) (H.faults host.new) }
-{
-    let Some(name) = script else {
-        return run_text(alloc, image, budget, &[], host);
-    };
-    match host.read(alloc, name, SCRIPT_LIMIT) {
-        Ok(Got::Whole(text)) => run_text(alloc, image, budget, text.as_slice(), host),
-        Ok(Got::Longer) => write_last(host, 2, SCRIPT_TOO_LONG),
-        Err(HostError::Failed) => Status::FAILED,
-        Err(HostError::NoMemory) => Status::NO_MEMORY,
-    }
-}
-
-// Reads the image, and goes on with the script.
-fn run_image<H: Host>(alloc: Global, run: Run<'_>, host: &mut H) -> Status
+// Reads what a run needs, runs it, and writes what comes of it.
+fn run_command<H: Host>(alloc: Global, run: RunWords<'_>, host: &mut H) -> Status
+    requires { IsInLimits run }
     ensures follows { IfSome (H.told host.old).files (λ files. Follows (H.told host.old) (H.told host.new)
         (carried_out (plan_of (Some (run_in run.entry))) files) result.code) }
+    ensures completes { IfSome (H.told host.old).files (λ files. Completes files (run_in run.entry) (H.told host.old) (H.told host.new) result.code) }
     ensures headline { IfSome (H.told host.old).files (λ files. Headline files (run_in run.entry) (H.told host.old) (H.told host.new) result.code) }
-    ensures codes { result.code ≤ 5 }
-    ensures words { result.code ≢ 1 }
-    ensures unwritten { result.code ≡ 4 → OnlyReads (H.told host.old) (H.told host.new) }
-    ensures later { H.faults host.old ≤ H.faults host.new }
-    ensures cause { result.code ≡ 3 → Rose (H.faults host.old) (H.faults host.new) }
+    ensures ends { RunEnds (H.told host.old) (H.told host.new) (H.faults host.old) (H.faults host.new) result.code }
 {
-    match host.read(alloc, run.image, IMAGE_LIMIT) {
-        Ok(Got::Whole(image)) => run_script(alloc, image.as_slice(), run.budget, run.script, host),
-        Ok(Got::Longer) => write_last(host, 2, IMAGE_TOO_LONG),
-        Err(HostError::Failed) => Status::FAILED,
-        Err(HostError::NoMemory) => Status::NO_MEMORY,
+    match read_inputs(alloc, run, host) {
+        Ok(inputs) => run_inputs(alloc, &inputs, &settings_of(run), host),
+        Err(status) => status,
     }
 }
 
 /// Runs the program on the words after its name, over a host.
 ///
-/// The words are `run`, the name of a raw image, a budget of steps, at most 1,000,000,000, and maybe
-/// the name of a script of faults. The console of the run goes to standard output, and then its
-/// report to standard error.
+/// The words are those of the command `run`. The image, the script and the input are read in this order; without
+/// `--script` or `--input` that one is empty. The console of the run goes to standard output, and then its report to
+/// standard error.
 ///
 /// | status | when |
 /// |---|---|
 /// | 0 | the run ended, and all was written |
 /// | 1 | the words are not of this form, and the usage line was written |
-/// | 2 | the image is longer than 16,777,216 bytes, the script is longer than 4,194,304 or is refused, and a line that says so was written |
+/// | 2 | a file is longer than its limit, or the image or the script is refused, and a line that says so was written |
 /// | 3 | a call of the host failed; after it nothing is written |
 /// | 4 | want of memory; nothing was written |
 /// | 5 | the run stopped at a poisoned word, and all was written |
+///
+/// The limits are 83,886,080 bytes for the image, 4,194,304 for the script and 16,777,216 for the input.
 pub fn ras_main<H: Host>(alloc: Global, words: &[String], host: &mut H) -> Status
     ensures codes { result.code ≤ 5 }
 
     // Status 1 comes exactly where the words ask for no run and the usage line was written.
-    ensures usage { result.code ≡ 1 → (run_of (map (λ w. string_bytes w) words.now) ≡ None) × Performs (H.told host.old) (H.told host.new) (Err usage ∷ []) }
-    ensures refused { run_of (map (λ w. string_bytes w) words.now) ≡ None → (result.code ≡ 1) ⊎ (result.code ≡ 3) }
+    ensures usage { result.code ≡ 1 → (run_of (texts_of words.now) ≡ None) × Performs (H.told host.old) (H.told host.new) (Err usage ∷ []) }
+    ensures refused { run_of (texts_of words.now) ≡ None → (result.code ≡ 1) ⊎ ((result.code ≡ 3) ⊎ (result.code ≡ 4)) }
 
-    // Over a host that tells its files: the status and all that is written.
-    ensures follows { IfSome (H.told host.old).files (λ files. Follows (H.told host.old) (H.told host.new)
-        (planned_by (map (λ w. string_bytes w) words.now) files) result.code) }
+    // Over a host that tells its files: the status and all that is written, by the plan; and the calls that are made.
+    ensures follows { IfSome (H.told host.old).files (λ files. Follows (H.told host.old) (H.told host.new) (planned_by (texts_of words.now) files) result.code) }
+    ensures calls { IfSome (H.told host.old).files (λ files. MakesFront (H.told host.old) (H.told host.new) (planned_by (texts_of words.now) files)) }
+
+    // There, a run whose files are accepted writes all of its outputs.
+    ensures complete { IfSome (H.told host.old).files (λ files. IfSome (run_of (texts_of words.now))
+        (λ run. Completes files run (H.told host.old) (H.told host.new) result.code)) }
 
     // There, a run under faults ends as the flat machine's does, or stops at a word that was flipped twice.
-    ensures headline { IfSome (H.told host.old).files (λ files. IfSome (run_of (map (λ w. string_bytes w) words.now))
+    ensures headline { IfSome (H.told host.old).files (λ files. IfSome (run_of (texts_of words.now))
         (λ run. Headline files run (H.told host.old) (H.told host.new) result.code)) }
+
+    // Status 1 and 2: one line was written, to standard error.
+    ensures line { (result.code ≡ 1) ⊎ (result.code ≡ 2) → WritesLine (H.told host.old) (H.told host.new) }
 
     // Status 4: nothing was written.
     ensures unwritten { result.code ≡ 4 → OnlyReads (H.told host.old) (H.told host.new) }
@@ -172,8 +108,9 @@ pub fn ras_main<H: Host>(alloc: Global, words: &[String], host: &mut H) -> Statu
     ensures later { H.faults host.old ≤ H.faults host.new }
     ensures cause { result.code ≡ 3 → Rose (H.faults host.old) (H.faults host.new) }
 {
-    match read_words(words) {
-        Some(run) => run_image(alloc, run, host),
-        None => write_last(host, 1, USAGE),
+    match read_words(alloc, words) {
+        Ok(run) => run_command(alloc, run, host),
+        Err(WordsError::Refused) => write_last(host, 1, USAGE),
+        Err(WordsError::NoMemory) => Status::NO_MEMORY,
     }
 }

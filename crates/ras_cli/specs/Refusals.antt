@@ -1,0 +1,66 @@
+-- The lines that say why the program didn't run.
+use Rattle.std.specs.Prelude.{ℕ, ◌++◌, codes}
+use Rattle.std.specs.Fmt.{decimal}
+use Rattle.ras_host.specs.Told.{Bytes}
+use Rattle.elf_load.specs.declared.refusals.ElfRefused.{ElfRefused}
+use Rattle.elf_load.specs.declared.refusals.ElfRefused.TheVariants as refused
+use Rattle.fault_script.specs.declared.lines.Why.{Why}
+use Rattle.fault_script.specs.declared.lines.Why.TheVariants as why
+
+-- words that ask for nothing
+abbrev pub usage : Bytes
+usage = codes "usage: ras run|compare IMAGE [options] | ras debug IMAGE COMMANDS [options] | ras read FILE | ras demo NUMBER\n"
+
+-- an image that is longer than its limit
+abbrev pub image_too_long : Bytes
+image_too_long = codes "ras: image too long: limit 83886080\n"
+
+-- a script that is longer than its limit
+abbrev pub script_too_long : Bytes
+script_too_long = codes "ras: script too long: limit 4194304\n"
+
+-- an input that is longer than its limit
+abbrev pub input_too_long : Bytes
+input_too_long = codes "ras: input too long: limit 16777216\n"
+
+-- a rule of one program header, with its number
+abbrev pub segment_text : Bytes → ℕ → Bytes
+segment_text rule k = rule ++ codes " segment " ++ decimal k
+
+-- which rule an image breaks
+abbrev pub rule_text : ElfRefused → Bytes
+rule_text refused.Short = codes "short"
+rule_text refused.Magic = codes "magic"
+rule_text refused.Class = codes "class"
+rule_text refused.ExecType = codes "exectype"
+rule_text refused.Machine = codes "machine"
+rule_text refused.Compressed = codes "compressed"
+rule_text refused.HardFloat = codes "hardfloat"
+rule_text refused.Reduced = codes "reduced"
+rule_text refused.Headers = codes "headers"
+rule_text refused.TooMany = codes "toomany"
+rule_text refused.NoLoad = codes "noload"
+rule_text (refused.FilePart k) = segment_text (codes "filepart") k
+rule_text (refused.Sizes k) = segment_text (codes "sizes") k
+rule_text (refused.Outside k) = segment_text (codes "outside") k
+rule_text refused.Entry = codes "entry"
+rule_text refused.NoMemory = codes "nomemory"
+
+-- an image that is refused
+abbrev pub image_refused : ElfRefused → Bytes
+image_refused refusal = codes "ras: image refused: " ++ rule_text refusal ++ codes "\n"
+
+-- why a line of a script is refused
+abbrev pub why_text : Why → Bytes
+why_text why.Bytes = codes "bytes"
+why_text why.Word = codes "word"
+why_text why.Count = codes "count"
+why_text why.Number = codes "number"
+why_text why.Address = codes "address"
+why_text why.Bit = codes "bit"
+why_text why.Step = codes "step"
+why_text why.TooMany = codes "toomany"
+
+-- a script that is refused
+abbrev pub script_refused : ℕ → Why → Bytes
+script_refused line cause = codes "ras: script refused: line " ++ decimal line ++ codes ": " ++ why_text cause ++ codes "\n"

@@ -1,0 +1,31 @@
+//! What a run asks the machine for.
+
+ghost use Rattle.std.specs.Prelude.{◌≡◌, ◌≤◌};
+ghost use Rattle.ras_machine.specs.Settings.{IsInRange};
+ghost use Rattle.ras_words.specs.Texts.{run_in, IsInLimits};
+ghost use Rattle.ras_cli.specs.Plan.{settings_of, words_of};
+
+use ras_machine::Settings;
+use ras_words::RunWords;
+
+/// The settings that a run asks for.
+pub fn settings_of(run: RunWords<'_>) -> Settings
+    requires { IsInLimits run }
+    ensures settings { result ≡ settings_of (run_in run.entry) }
+    ensures range { IsInRange result }
+{
+    Settings {
+        ram_mib: run.ram_mib as u32,
+        poll: 0,
+        patrol: 0,
+        budget: run.budget,
+    }
+}
+
+/// How many words of 8 bytes the RAM of a run has.
+pub fn words_of(run: RunWords<'_>) -> u32
+    requires { IsInLimits run }
+    ensures { result ≡ words_of (run_in run.entry) }
+{
+    131_072 * run.ram_mib as u32
+}

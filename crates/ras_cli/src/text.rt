@@ -1,0 +1,33 @@
+//! Text that is made before it is written.
+
+ghost use Rattle.std.specs.Prelude.{◌≡◌, ◌+◌, ◌≤◌, ◌++◌, length};
+ghost use Rattle.std.specs.Fmt.{decimal};
+ghost use Rattle.arrayvec.specs.ArrayVec.{array_vec_len};
+
+use arrayvec::ArrayVec;
+use itoa::Buffer;
+
+/// A text of at most 2,048 bytes, which no line and no report passes.
+pub type Text = ArrayVec<u8, 2048>;
+
+/// Appends bytes that fit.
+pub fn push_text(text: &mut Text, bytes: &[u8])
+    requires { array_vec_len text.old + length bytes.now ≤ 2048 }
+    ensures items { text.new.items ≡ text.old.items ++ bytes.now }
+    ensures len { array_vec_len text.new ≡ array_vec_len text.old + length bytes.now }
+{
+    match text.try_extend_from_slice(bytes) {
+        Ok(()) => (),
+        Err(_) => unreachable!(),
+    }
+}
+
+/// Appends a number in decimal.
+pub fn push_number(text: &mut Text, number: u64)
+    requires { array_vec_len text.old + 20 ≤ 2048 }
+    ensures items { text.new.items ≡ text.old.items ++ decimal number }
+    ensures len { array_vec_len text.new ≤ array_vec_len text.old + 20 }
+{
+    let mut buffer = Buffer::new();
+    push_text(text, buffer.format(number).as_bytes());
+}
