@@ -5,5 +5,5 @@ SECTIONS {
     .text : { *(.text.start) *(.text*) *(.rodata*) *(.srodata*) }
     . = ALIGN(4096);
     .data : { *(.data*) *(.sdata*) }
-    .bss : { *(.sbss*) *(.bss*) . = ALIGN(16); . = . + 4096; stack_top = .; }
+    .bss : { *(.sbss*) *(.bss*) . = ALIGN(16); . = . + 8192; stack_top = .; }
 }

@@ -1,3 +1,4 @@
+    .option norvc
     .section .text.start
     .globl start
 start:
