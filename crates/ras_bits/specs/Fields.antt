@@ -1,4 +1,5 @@
--- Fields of bits in a number, and numbers in bytes.
+-- Fields of bits in a number, and numbers in bytes (two's complement: unprivileged manual, "Integer Register-Immediate
+-- Instructions").
 use Rattle.byteorder.specs.Endian.{little_number}
 use Rattle.std.specs.Prelude.{List, drop, ℕ, ◌+◌, ◌-◌, ◌*◌, ◌/◌, ◌%◌, ◌^◌, ◌==◌, Bool, nat_lt, count_ones, if◌then◌else◌}
 
@@ -19,6 +20,6 @@ sign_extended v bits =
 abbrev pub has_odd_parity : ℕ → Bool
 has_odd_parity v = count_ones v % 2 == 1
 
--- the little-endian number in the n bytes from place `at` on
+-- the little-endian number in the n bytes from offset `at` on
 unfoldable pub number_at : ℕ → ℕ → List ℕ → ℕ
 number_at n at b = little_number n (drop at b)

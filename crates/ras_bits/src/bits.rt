@@ -2,6 +2,7 @@
 
 ghost use Rattle.std.specs.Prelude.{◌≡◌, ◌+◌, ◌<◌, ◌≤◌, ◌^◌};
 ghost use Rattle.ras_bits.specs.Fields.{field, with_field, sign_extended, has_odd_parity};
+ghost use Rattle.ras_bits.specs.Bits.{has_bit};
 
 /// The field of `len` bits of `v` whose lowest bit is bit `lo`.
 ///
@@ -48,4 +49,12 @@ pub fn parity(v: u64) -> bool
     ensures { result ≡ has_odd_parity v }
 {
     v.count_ones() % 2 == 1
+}
+
+/// Whether bit `i` of `n` is set. `i` is below 64.
+pub fn has_bit(n: u64, i: u32) -> bool
+    requires { i < 64 }
+    ensures { result ≡ has_bit n i }
+{
+    (n >> i) % 2 == 1
 }

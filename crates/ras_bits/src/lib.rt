@@ -1,14 +1,20 @@
-//! What every layer speaks of: fields of bits, numbers in bytes, and a few shared words.
+//! What every layer speaks of: the physical map, fields of bits, numbers in bytes, and a few shared types.
 //!
 //! No call of this crate takes memory.
 #![tactic(auto)]
 
 mod bits;
 mod bytes;
+mod map;
 mod terms;
 
-pub use bits::{get_field, parity, put_field, sext};
+pub use bits::{get_field, has_bit, parity, put_field, sext};
 pub use bytes::{u16_at, u32_at, u64_at};
+pub use map::{
+    BERT_START, BOOT_REGION_LENGTH, BOOT_REGION_START, FIRMWARE_LENGTH, FIRMWARE_START, LAST_STEP,
+    MOST_WORDS, POLLED_BLOCK_LENGTH, POLLED_BLOCK_START, POLLED_POINTER, RAM_START, WORDS_PER_MIB,
+    is_ram, word_address, word_at,
+};
 pub use terms::{Access, Mode, NoMemory, SectionAt};
 
 #[cfg(test)]
@@ -65,5 +71,33 @@ mod tests {
         assert_eq!(rt; u16_at(&bytes, 0), 0x01FF);
         assert_eq!(rt; u32_at(&bytes, 1), 0x0403_0201);
         assert_eq!(rt; u64_at(&bytes, 1), 0x0807_0605_0403_0201);
+    }
+
+    #[test]
+    fn the_map_has_these_addresses(rt: HostRuntime) {
+        for (address, want) in [
+            (FIRMWARE_START, 0x4000_0000),
+            (BERT_START, 0x4000_0100),
+            (POLLED_POINTER, 0x4000_0200),
+            (BOOT_REGION_START, 0x4000_1000),
+            (POLLED_BLOCK_START, 0x4000_2000),
+            (RAM_START, 0x8000_0000),
+            (LAST_STEP, 1_000_000_000),
+        ] {
+            assert_eq!(rt; address, want);
+        }
+        for (length, want) in [
+            (FIRMWARE_LENGTH, 16_384),
+            (BOOT_REGION_LENGTH, 4_096),
+            (POLLED_BLOCK_LENGTH, 2_048),
+            (WORDS_PER_MIB, 131_072),
+            (MOST_WORDS, 8_388_608),
+        ] {
+            assert_eq!(rt; length, want);
+        }
+        assert_eq!(rt; word_address(MOST_WORDS), 0x8400_0000);
+        assert!(rt; is_ram(MOST_WORDS, 0x83FF_FFFF));
+        assert!(rt; !is_ram(MOST_WORDS, 0x7FFF_FFFF));
+        assert_eq!(rt; word_at(MOST_WORDS, 0x83FF_FFFF), MOST_WORDS - 1);
     }
 }

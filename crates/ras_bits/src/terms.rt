@@ -1,4 +1,4 @@
-//! Words that several layers share.
+//! Types that several layers share.
 
 use std::alloc::{AllocError, AllocFailed};
 
@@ -44,7 +44,7 @@ pub enum Access {
 pub struct SectionAt {
     /// The section type: a GUID in the order of its bytes in memory.
     pub kind: [u8; 16],
-    /// The place of the section's first byte, counted from the first byte of what holds it.
+    /// The offset of the section's first byte in what holds it.
     pub start: u32,
     /// The section's length in bytes.
     pub length: u32,
