@@ -166,11 +166,6 @@ unfolding hex_text
 none_left zero n text e = refl
 none_left (suc width) n text e = absurd (omega arith)
 
-pub hex_length : (width n : ℕ) → length (hex_text width n) ≡ width
-unfolding hex_text
-hex_length zero n = refl
-hex_length (suc width) n = omega (arith, length-append (hex_text width (n / 16)) (hex_digit (n % 16) ∷ []), hex_length width (n / 16))
-
 -- the bytes of digits
 
 abbrev pub IsDigitByte : ℕ → Type 0

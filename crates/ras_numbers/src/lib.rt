@@ -10,6 +10,3 @@ mod writing;
 pub use laws::{address_reads_back, decimal_reads_back, hex_reads_back};
 pub use reading::number;
 pub use writing::{address, hex_digit, hex_digits};
-
-#[cfg(test)]
-mod tests;
