@@ -1,5 +1,5 @@
 -- A computation that asks a bus for words: it is a function of the replies, and all its asks come before its answer.
-use Rattle.std.specs.Prelude.{ℕ, ◌<◌, ◌-◌, List, [], ◌∷◌}
+use Rattle.std.specs.Prelude.{◌≡◌, ℕ, ◌<◌, ◌-◌, List, [], ◌∷◌}
 use Rattle.poison_mem.specs.declared.cell.Cell.{Cell}
 use Rattle.poison_mem.specs.declared.cell.Cell.TheVariants.{Good, Poison}
 use Rattle.poison_mem.specs.declared.cell.UseKind.{UseKind}
@@ -56,12 +56,22 @@ abbrev pub bus_of : {X B L : Type 0} → Played X B L → B
 bus_of (Ended x b log) = b
 bus_of (Poisoned w use_kind b log) = b
 
+-- a play whose log is shown by another
+abbrev pub with_log : {X B L M : Type 0} → (L → M) → Played X B L → Played X B M
+with_log f (Ended x b log) = Ended x b (f log)
+with_log f (Poisoned w use_kind b log) = Poisoned w use_kind b (f log)
+
 -- the good replies of a bus to the asks of a computation, in order
 abbrev pub replies_of : {X B : Type 0} → BusMeaning B → Asking X → B → List ℕ
 replies_of bus (Answer x) b = []
 replies_of bus (Ask w use_kind go_on) b =
     let reading = bus.read b w in
     by_cell reading.cell (λ value. value ∷ replies_of bus (go_on value) reading.after) []
+
+-- a play ended with this answer, and the computation asks for nothing more; or it met poison at the next word that the computation asks for
+abbrev pub IsEndOf : {X B L : Type 0} → Played X B L → Asking X → Type 0
+IsEndOf (Ended x b log) m = m ≡ Answer x
+IsEndOf (Poisoned w use_kind b log) m = (go_on : ℕ → Asking _) × (m ≡ Ask w use_kind go_on)
 
 -- whatever the replies are, at most this many words are asked for, each of them is there, and the answer is as this says
 abbrev pub AsksWithin : {X : Type 0} → ℕ → ℕ → (X → Type 0) → Asking X → Type 0

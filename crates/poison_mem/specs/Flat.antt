@@ -1,7 +1,6 @@
 -- Plain words.
-use Rattle.std.specs.Prelude.{ℕ, List, [], length, slice_index, slice_set, refl}
-use Rattle.std.proofs.Math.ListN.{length-set}
-use Rattle.poison_mem.specs.Bus.{BusMeaning, KeepsWords}
+use Rattle.std.specs.Prelude.{ℕ, List, [], length, slice_index, slice_set}
+use Rattle.poison_mem.specs.Bus.{BusMeaning}
 use Rattle.poison_mem.specs.Merge.{merged_value}
 use Rattle.poison_mem.specs.declared.cell.Cell.TheVariants.{Good}
 
@@ -11,10 +10,4 @@ flat_meaning = record {
   words = length;
   read = λ memory w. record { cell = Good (slice_index memory w); after = memory; events = [] };
   store = λ memory w value mask. record { after = slice_set memory w (merged_value (slice_index memory w) value mask); events = [] };
-}
-
-pub flat_keeps_words : KeepsWords flat_meaning
-flat_keeps_words = record {
-  read = λ memory w. refl;
-  store = λ memory w value mask. length-set memory w (merged_value (slice_index memory w) value mask);
 }

@@ -3,7 +3,7 @@ use Rattle.std.specs.Prelude.{ℕ, ◌==◌, if◌then◌else◌}
 use Rattle.poison_mem.specs.declared.cell.Cell.{Cell}
 use Rattle.poison_mem.specs.declared.line.Line.{Line}
 
--- the cell of a place, 0 to 7
+-- the cell of an index, 0 to 7
 abbrev pub cell : Line → ℕ → Cell
 cell line i =
     if i == 0 then line.c0 else
@@ -14,7 +14,7 @@ cell line i =
     if i == 5 then line.c5 else
     if i == 6 then line.c6 else line.c7
 
--- the line with another cell at a place
+-- the line with another cell at an index
 abbrev pub with_cell : Line → ℕ → Cell → Line
 with_cell line i c = record {
   c0 = if i == 0 then c else line.c0;

@@ -6,8 +6,8 @@ use Rattle.poison_mem.specs.declared.cell.Cell.{Cell}
 use Rattle.poison_mem.specs.declared.line.Line.{Line}
 use Rattle.poison_mem.specs.Line.{cell, with_cell, line_by}
 use Rattle.poison_mem.specs.Merge.{merged_value, merged_cell}
-use Rattle.poison_mem.specs.Flips.{Shows, stored_at, renewed_at, raised_at}
-use Rattle.poison_mem.specs.Showing.{merged-shows, shows-more, stored_at-other, renewed_at-other}
+use Rattle.poison_mem.specs.Flips.{Shows, stored_at, renewed_at}
+use Rattle.poison_mem.specs.FlipsLaws.{merged-shows, shows-more, stored_at-other, renewed_at-other}
 use Rattle.poison_mem.specs.Level.{LineShows}
 
 -- a fact of each number below eight
@@ -25,19 +25,6 @@ eight_cases P p0 p1 p2 p3 p4 p5 p6 p7 (suc (suc (suc (suc (suc (suc (suc (suc i)
 -- a cell of a line that was made by a function
 pub cell-line_by : (f : ℕ → Cell) (i : ℕ) → i < 8 → cell (line_by f) i ≡ f i
 cell-line_by f i fits = eight_cases (λ i. cell (line_by f) i ≡ f i) refl refl refl refl refl refl refl refl i fits
-
--- a line is its cells
-pub line-cells : (line : Line) (f : ℕ → Cell) → ((i : ℕ) → i < 8 → cell line i ≡ f i) → line ≡ line_by f
-line-cells line f same = rw (
-  ← same 0 (omega arith),
-  ← same 1 (omega arith),
-  ← same 2 (omega arith),
-  ← same 3 (omega arith),
-  ← same 4 (omega arith),
-  ← same 5 (omega arith),
-  ← same 6 (omega arith),
-  ← same 7 (omega arith),
-) refl
 
 -- a cell of a line after one was set
 pub cell-with_cell : (line : Line) (n i : ℕ) (c : Cell) → n < 8 → i < 8 → cell (with_cell line n c) i ≡ cond (eqb i n) c (cell line i)
@@ -67,9 +54,6 @@ one_more_cell line f n fits before i below =
 pub line-same : (f g q r : ℕ → ℕ) (l : ℕ) (cells : Line) → ((i : ℕ) → i < 8 → g (8 * l + i) ≡ f (8 * l + i)) → ((i : ℕ) → i < 8 → q (8 * l + i) ≤ r (8 * l + i))
     → LineShows f q l cells → LineShows g r l cells
 line-same f g q r l cells same up it i below = shows-more (f (8 * l + i)) (g (8 * l + i)) (q (8 * l + i)) (r (8 * l + i)) (cell cells i) (same i below) (up i below) (it i below)
-
-pub raised-up : (q : ℕ → ℕ) (w k : ℕ) → q k ≤ raised_at q w k
-raised-up q w k = grind (arith, nat_tests)
 
 -- a line after a store of the bytes of a mask shows the words with these bytes
 pub stored-line : (f q : ℕ → ℕ) (w v mask : ℕ) (cells : Line) → LineShows f q (w / 8) cells

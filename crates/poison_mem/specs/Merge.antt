@@ -1,4 +1,4 @@
--- A word after a store of some of its bytes.
+-- A word after a store of some of its bytes (unprivileged manual, "Load and Store Instructions"; poison: RISC-V RERI).
 use Rattle.std.specs.Prelude.{ℕ, List, [], ◌∷◌, ◌==◌, ◌/◌, ◌%◌, ◌^◌, if◌then◌else◌, slice_index, bit_and}
 use Rattle.std.specs.Int.{w64, to_le_bytes, from_le_bytes}
 use Rattle.poison_mem.specs.declared.cell.Cell.{Cell}

@@ -2,7 +2,7 @@
 
 ghost use Rattle.std.specs.Prelude.{◌≡◌, ◌<◌};
 ghost use Rattle.poison_mem.specs.Merge.{byte_after, blended, merged_value, merged_cell};
-ghost use Rattle.poison_mem.specs.Numbers.{use_number};
+ghost use Rattle.poison_mem.specs.UseKind.{use_number};
 
 /// A word of memory as a reader sees it.
 #[derive(Clone, Copy, Debug, PartialEq, Eq)]

@@ -45,7 +45,7 @@ impl FlatMem {
 }
 
 impl Bus for FlatMem {
-    ghost use Rattle.poison_mem.specs.Flat.{flat_keeps_words};
+    ghost use Rattle.poison_mem.specs.FlatLaws.{flat_keeps_words};
 
     ghost meaning = { flat_meaning };
 

@@ -2,7 +2,8 @@
 
 ghost use Rattle.std.specs.Prelude.{◌≡◌, ◌<◌, ◌≤◌, ℕ};
 ghost use Rattle.poison_mem.specs.Bus.{logged_all};
-ghost use Rattle.poison_mem.specs.Flips.{FlipMeaning, FlipsKeepWords, IsFaithful, CountsFlips};
+ghost use Rattle.poison_mem.specs.Cells.{CellsKeepCounts, is_third};
+ghost use Rattle.poison_mem.specs.Flips.{FlipMeaning, IsFaithful, WordsKeepCounts};
 
 use crate::bus::Bus;
 use crate::cell::{Cell, CellState};
@@ -22,26 +23,29 @@ pub trait FlipBus: Bus {
     /// Sets the word `w` of the memory.
     fn load(&mut self, w: u32, v: u64)
         requires { w < Self.meaning.words self.old }
-        ensures { self.new ≡ flips.load self.old w v };
+        ensures after { self.new ≡ flips.cells.load self.old w v }
+        ensures words { Self.meaning.words self.new ≡ Self.meaning.words self.old };
 
     /// Flips a bit of the word `w`: bits 0 to 63 are its data, 64 to 71 its check bits. Answers true exactly at a third
     /// flip of a word that isn't marked.
     fn strike(&mut self, w: u32, bit: u8) -> bool
         requires word { w < Self.meaning.words self.old }
         requires bit { bit < 72 }
-        ensures after { self.new ≡ flips.strike self.old w bit }
-        ensures third { result ≡ flips.is_third self.old w };
+        ensures after { self.new ≡ flips.cells.strike self.old w bit }
+        ensures third { result ≡ is_third (flips.cells.cell self.old w) }
+        ensures words { Self.meaning.words self.new ≡ Self.meaning.words self.old };
 
     /// Reads the word `w`, with events to the record of scrubs, and rewrites it where it is good.
     fn scrub<G: EventLog>(&mut self, w: u32, g: &mut G)
         requires { w < Self.meaning.words self.old }
-        ensures after { self.new ≡ (flips.scrub self.old w).after }
-        ensures events { g.new ≡ logged_all G.logged g.old (flips.scrub self.old w).events };
+        ensures after { self.new ≡ (flips.cells.scrub self.old w).after }
+        ensures events { g.new ≡ logged_all G.logged g.old (flips.cells.scrub self.old w).events }
+        ensures words { Self.meaning.words self.new ≡ Self.meaning.words self.old };
 
     /// The word `w` as the memory keeps it.
     fn cell_state(&self, w: u32) -> CellState
         requires { w < Self.meaning.words self.now }
-        ensures cell { result ≡ flips.cell self.now w }
+        ensures cell { result ≡ flips.cells.cell self.now w }
         ensures counted { result.count ≤ 3 };
 
     /// The cell that a read of the word `w` would give, without effect.
@@ -49,12 +53,19 @@ pub trait FlipBus: Bus {
         requires { w < Self.meaning.words self.now }
         ensures { result ≡ flips.view self.now w };
 
-    /// No call changes the number of words.
-    ghost flips_keep_words: { FlipsKeepWords Self.meaning flips };
+    /// Gives the word `w` of the memory this state. No run does so.
+    fn set_cell(&mut self, w: u32, s: &CellState)
+        requires word { w < Self.meaning.words self.old }
+        requires counted { s.now.count ≤ 3 }
+        ensures after { self.new ≡ flips.cells.set_cell self.old w s.now }
+        ensures words { Self.meaning.words self.new ≡ Self.meaning.words self.old };
+
+    /// No call changes the number of words, and of the calls of a run only a flip adds to the flips that a word counts.
+    ghost cells_keep_counts: { CellsKeepCounts Self.meaning.words flips.cells };
+
+    /// No read and no store adds to a count.
+    ghost words_keep_counts: { WordsKeepCounts Self.meaning flips.cells.cell };
 
     /// What stands for words shows them, or poison only where two flips came, and each call keeps it so.
     ghost faithful: { IsFaithful Self.meaning flips stands };
-
-    /// Only a flip adds to the flips that a word counts, and a third flip is of a word that counts two.
-    ghost counts_flips: { CountsFlips Self.meaning flips };
 }

@@ -2,7 +2,10 @@
 
 ghost use Rattle.std.specs.Prelude.{◌≡◌, ◌%◌, ◌<◌, ◌≤◌, ℕ};
 ghost use Rattle.poison_mem.specs.Bus.{logged_all};
-ghost use Rattle.poison_mem.specs.Level.{Level, CellCalls, InRange, LinesKeepWords, CellsKeepWords, KeepsLines, CellsKeepLines, CellsCountFlips};
+ghost use Rattle.poison_mem.specs.Cells.{CellCalls, CellsKeepCounts, is_third};
+ghost use Rattle.poison_mem.specs.LevelLaws.{within as within_of, twice as twice_of};
+ghost use Rattle.poison_mem.specs.Level.{Level, InRange, LinesKeepWords, KeepsLines, Within, Twice};
+ghost use Rattle.poison_mem.specs.Level.{CellsKeepLines, LinesKeepCounts};
 
 use crate::cell::CellState;
 use crate::line::Line;
@@ -13,7 +16,7 @@ pub trait LineMem {
     /// What each call answers, leaves and logs, as functions of the state before and the arguments.
     ghost level: { Level Self };
 
-    /// What holds of every state that is reached.
+    /// What holds of every reachable state.
     ghost valid: { Self → Type 0 };
 
     /// A line of the state stands for the words that the first function gives, each flipped as often since its last whole
@@ -51,6 +54,13 @@ pub trait LineMem {
 
     /// What is shown of a line that stands is its words, or poison only where two flips came, and each call keeps it so.
     ghost keeps_lines: { KeepsLines level valid stands };
+
+    /// *Within*: what is shown of a line that stands is its words or poison; a read keeps every line that stands, and a
+    /// put every other one.
+    ghost within: { Within level valid stands } = { within_of level valid stands keeps_lines };
+
+    /// *Twice*: poison that is shown of a line that stands comes only where two flips came.
+    ghost twice: { Twice level valid stands } = { twice_of level valid stands keeps_lines };
 }
 
 /// A level over a memory whose words are codewords: their bits flip, and a scrub rewrites them.
@@ -72,7 +82,7 @@ pub trait FlipMem: LineMem {
         requires word { w < Self.level.words self.old }
         requires bit { bit < 72 }
         ensures after { self.new ≡ calls.strike self.old w bit }
-        ensures third { result ≡ calls.is_third self.old w }
+        ensures third { result ≡ is_third (calls.cell self.old w) }
         ensures words { Self.level.words self.new ≡ Self.level.words self.old };
 
     /// Reads the word `w`, with events to the record of scrubs, and rewrites it where it is good.
@@ -88,12 +98,19 @@ pub trait FlipMem: LineMem {
         ensures cell { result ≡ calls.cell self.now w }
         ensures counted { result.count ≤ 3 };
 
-    /// No call changes the number of words.
-    ghost cells_keep_words: { CellsKeepWords Self.level calls };
+    /// Gives the word `w` of the memory this state. No run does so.
+    fn set_cell(&mut self, w: u32, s: &CellState)
+        requires word { w < Self.level.words self.old }
+        requires counted { s.now.count ≤ 3 }
+        ensures after { self.new ≡ calls.set_cell self.old w s.now }
+        ensures words { Self.level.words self.new ≡ Self.level.words self.old };
 
-    /// A flip that is no third one adds one flip to a line that stands; a scrub keeps each line that stands.
+    /// No call changes the number of words, and of the calls of a run only a flip adds to the flips that a word counts.
+    ghost cells_keep_counts: { CellsKeepCounts Self.level.words calls };
+
+    /// No read and no put of a line adds to a count.
+    ghost lines_keep_counts: { LinesKeepCounts Self.level calls.cell };
+
+    /// Any flip but a third one adds one flip to a line that stands; a scrub keeps each line that stands.
     ghost cells_keep_lines: { CellsKeepLines Self.level calls Self.valid Self.stands };
-
-    /// Only a flip adds to the flips that a word counts, and a third flip is of a word that counts two.
-    ghost cells_count_flips: { CellsCountFlips Self.level calls };
 }

@@ -4,6 +4,7 @@
 #![tactic(auto)]
 
 mod bus;
+mod cache_state;
 mod cell;
 mod event;
 mod flat;
@@ -11,15 +12,20 @@ mod flips;
 mod level;
 mod line;
 mod log;
+mod plays;
+mod record_id;
 
 pub use bus::Bus;
+pub use cache_state::{CacheState, Held};
 pub use cell::{Cell, CellState, UseKind, merge};
-pub use event::{Class, Event, RecordView};
+pub use event::{Class, Event, EventKind, RecordView};
 pub use flat::FlatMem;
 pub use flips::FlipBus;
 pub use level::{FlipMem, LineMem};
 pub use line::Line;
 pub use log::{EventLog, NoLog, ShortLog};
+pub use plays::plays_go_by_their_events;
+pub use record_id::{RecordId, records_are_named_by_their_numbers};
 
 #[cfg(test)]
 mod tests {

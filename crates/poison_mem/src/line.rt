@@ -27,7 +27,7 @@ pub struct Line {
 }
 
 impl Line {
-    /// The cell of a place, 0 to 7.
+    /// The cell of an index, 0 to 7.
     pub fn cell(&self, i: u8) -> Cell
         requires { i < 8 }
         ensures { result ≡ cell self.now i }
@@ -44,7 +44,7 @@ impl Line {
         }
     }
 
-    /// Sets the cell of a place, 0 to 7.
+    /// Sets the cell of an index, 0 to 7.
     pub fn set(&mut self, i: u8, c: Cell)
         requires { i < 8 }
         ensures { self.new ≡ with_cell self.old i c }

@@ -1,12 +1,15 @@
 -- Laws of computations over a bus.
-use Rattle.std.specs.Prelude.{◌≡◌, ℕ, List, [], ◌∷◌}
-use Rattle.std.proofs.Common.{refl, ◌∙◌}
+use Rattle.std.specs.Prelude.{◌≡◌, ℕ, List, [], ◌∷◌, ◌++◌}
+use Rattle.std.proofs.Common.{refl, sym, ap, ◌∙◌}
+use Rattle.std.proofs.lemmas.List.{append-nil, append_assoc}
+use Rattle.std.specs.List.{push}
+use Rattle.poison_mem.specs.BusLaws.{logged_append}
 use Rattle.poison_mem.specs.declared.cell.Cell.{Cell}
 use Rattle.poison_mem.specs.declared.cell.Cell.TheVariants.{Good, Poison}
 use Rattle.poison_mem.specs.declared.cell.UseKind.{UseKind}
 use Rattle.poison_mem.specs.declared.event.Event.{Event}
 use Rattle.poison_mem.specs.Bus.{BusMeaning, KeepsWords, logged_all}
-use Rattle.poison_mem.specs.Asking.{Asking, Answer, Ask, Played, Ended, Poisoned, ◌>>=◌, ◌then◌, by_cell, bus_of, follow, play, replies_of}
+use Rattle.poison_mem.specs.Asking.{Asking, Answer, Ask, Played, Poisoned, ◌>>=◌, ◌then◌, by_cell, bus_of, follow, play, replies_of, IsEndOf, with_log}
 
 cell_then : {X Y B L : Type 0} (f : X → B → L → Played Y B L) (cell : Cell) (go_on : ℕ → Played X B L) (go_on' : ℕ → Played Y B L) (w : ℕ) (use_kind : UseKind) (b : B) (log : L)
     → ((value : ℕ) → go_on' value ≡ (go_on value then f))
@@ -35,11 +38,6 @@ play_keeps_words bus logged (Ask w use_kind go_on) b log keeps =
     (λ value. play_keeps_words bus logged (go_on value) (bus.read b w).after (logged_all logged log (bus.read b w).events) keeps ∙ keeps.read b w)
     (keeps.read b w)
 
--- a play ended with this answer, and the computation asks for nothing more; or it met poison at the next word that the computation asks for
-abbrev pub IsEndOf : {X B L : Type 0} → Played X B L → Asking X → Type 0
-IsEndOf (Ended x b log) m = m ≡ Answer x
-IsEndOf (Poisoned w use_kind b log) m = (go_on : ℕ → Asking _) × (m ≡ Ask w use_kind go_on)
-
 end_by_cell : {X B L : Type 0} (cell : Cell) (w : ℕ) (use_kind : UseKind) (go_on : ℕ → Asking X) (P : ℕ → Played X B L) (b : B) (log : L) (rest : ℕ → List ℕ)
     → ((value : ℕ) → IsEndOf (P value) (follow (go_on value) (rest value)))
     → IsEndOf (by_cell cell P (Poisoned w use_kind b log)) (follow (Ask w use_kind go_on) (by_cell cell (λ value. value ∷ rest value) []))
@@ -54,3 +52,30 @@ play_shows bus logged (Ask w use_kind go_on) b log =
     end_by_cell (bus.read b w).cell w use_kind go_on (λ value. play bus logged (go_on value) (bus.read b w).after (logged_all logged log (bus.read b w).events)) _ _
     (λ value. replies_of bus (go_on value) (bus.read b w).after)
     (λ value. play_shows bus logged (go_on value) (bus.read b w).after _)
+
+with_log_by_cell : {X B L M : Type 0} (f : L → M) (cell : Cell) (go_on : ℕ → Played X B L) (go_on' : ℕ → Played X B M) (w : ℕ) (use_kind : UseKind) (b : B) (log : L)
+    → ((value : ℕ) → go_on' value ≡ with_log f (go_on value))
+    → by_cell cell go_on' (Poisoned w use_kind b (f log)) ≡ with_log f (by_cell cell go_on (Poisoned w use_kind b log))
+with_log_by_cell f (Good value) go_on go_on' w use_kind b log h = h value
+with_log_by_cell f Poison go_on go_on' w use_kind b log h = refl
+
+-- a list that is logged to is the events before and behind
+pushed_all : (before events : List Event) → logged_all push before events ≡ before ++ events
+pushed_all before [] = sym (append-nil before)
+pushed_all before (event ∷ events) = pushed_all (before ++ event ∷ []) events ∙ append_assoc before (event ∷ []) events
+
+play_from : {X B L : Type 0} (bus : BusMeaning B) (logged : L → Event → L) (m : Asking X) (b : B) (log : L) (before : List Event)
+    → play bus logged m b (logged_all logged log before) ≡ with_log (logged_all logged log) (play bus push m b before)
+play_from bus logged (Answer x) b log before = refl
+play_from bus logged (Ask w use_kind go_on) b log before =
+    let events = (bus.read b w).events in
+    let same : logged_all logged (logged_all logged log before) events ≡ logged_all logged log (logged_all push before events) =
+    sym (logged_append logged log before events) ∙ ap (logged_all logged log) (sym (pushed_all before events)) in
+    ap (λ log. by_cell (bus.read b w).cell (λ value. play bus logged (go_on value) (bus.read b w).after log) (Poisoned w use_kind (bus.read b w).after log)) same
+    ∙ with_log_by_cell (logged_all logged log) (bus.read b w).cell _ _ w use_kind (bus.read b w).after (logged_all push before events)
+    (λ value. play_from bus logged (go_on value) (bus.read b w).after log (logged_all push before events))
+
+-- a play over any log is the play over a list of events, and then these events logged in order
+pub play_by_events : {X B L : Type 0} (bus : BusMeaning B) (logged : L → Event → L) (m : Asking X) (b : B) (log : L)
+    → play bus logged m b log ≡ with_log (logged_all logged log) (play bus push m b [])
+play_by_events bus logged m b log = play_from bus logged m b log []

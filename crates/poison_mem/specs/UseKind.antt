@@ -1,4 +1,4 @@
--- The numbers of uses.
+-- What a word is read for (a profile of RERI 1.0, "Error bank and error record registers").
 use Rattle.std.specs.Prelude.{ℕ}
 use Rattle.poison_mem.specs.declared.cell.UseKind.{UseKind}
 use Rattle.poison_mem.specs.declared.cell.UseKind.TheVariants.{Fetch, Walk, Load, Amo, Sbi}
