@@ -2,8 +2,9 @@
 use Rattle.std.proofs.Common.{slice_index, ◌≢◌, ◌≤◌, not, if◌then◌else◌, ◌≡◌, ℕ, ◌<◌, ltb, inl, inr, Bool, true, ◌&&◌, ◌==◌, refl, sym, ◌∙◌, arith, eqb-true}
 use Rattle.std.proofs.lemmas.Bool.Decides.{eqb_tells}
 use Rattle.std.proofs.lemmas.Bool.{eqb-false, not-true, cases_lt, cond-true, cond-false, lt-ltb, le-ltb, and_parts}
-use Rattle.hsiao_code.specs.Code.{columns, column_at, xor_of, check_of_byte, bit_of_syndrome, place}
-use Rattle.hsiao_code.specs.Columns.{all_below, all_below_at}
+use Rattle.hsiao_code.specs.Code.{columns, column_at, xor_of, check_of_byte, bit_of_syndrome, first_index}
+use Rattle.hsiao_code.specs.Columns.{all_below}
+use Rattle.hsiao_code.specs.ColumnLaws.{all_below_at}
 use Rattle.hsiao_code.specs.declared.tables.TheConstants.{CHECKS_0, CHECKS_1, CHECKS_2, CHECKS_3, CHECKS_4, CHECKS_5, CHECKS_6, CHECKS_7, SYNDROMES}
 
 checks_0 : all_below (λ b. slice_index CHECKS_0 b == check_of_byte 0 b) 256 ≡ true
@@ -63,7 +64,7 @@ pub entry_7 : (b : ℕ) → b < 256 → slice_index CHECKS_7 b ≡ check_of_byte
 entry_7 b h = eqb-true _ _ (all_below_at (λ n. slice_index CHECKS_7 n == check_of_byte 7 n) 256 b checks_7 h)
 
 syndromes : all_below (λ s. slice_index SYNDROMES s == bit_of_syndrome s) 256 ≡ true
-unfolding all_below bit_of_syndrome place columns
+unfolding all_below bit_of_syndrome first_index columns
 syndromes = refl
 
 pub syndrome_at : (s : ℕ) → s < 256 → slice_index SYNDROMES s ≡ bit_of_syndrome s
@@ -72,7 +73,7 @@ syndrome_at s h = eqb-true _ _ (all_below_at (λ n. slice_index SYNDROMES n == b
 -- ---- what an entry of the second table says
 
 -- at 72 the syndrome is 0, below it that bit's column, at 73 neither
-pub record IsEntry (s e : ℕ) : Type 0 where
+pub record IsTableEntry (s e : ℕ) : Type 0 where
   pub clean : e ≡ 72 → s ≡ 0
   pub fixed : e < 72 → column_at e ≡ s
   pub bad : e ≡ 73 → (s ≢ 0) × ((j : ℕ) → j < 72 → column_at j ≢ s)
@@ -86,10 +87,10 @@ is_entry s =
     else (e == 73 && not (s == 0) && all_below (λ j. not (column_at j == s)) 72))
 
 entries : all_below is_entry 256 ≡ true
-unfolding all_below bit_of_syndrome place column_at columns
+unfolding all_below bit_of_syndrome first_index column_at columns
 entries = refl
 
-entry_from : (s e : ℕ) → (if e == 72 then s == 0 else (if ltb e 72 then column_at e == s else (e == 73 && not (s == 0) && all_below (λ j. not (column_at j == s)) 72))) ≡ true → IsEntry s e
+entry_from : (s e : ℕ) → (if e == 72 then s == 0 else (if ltb e 72 then column_at e == s else (e == 73 && not (s == 0) && all_below (λ j. not (column_at j == s)) 72))) ≡ true → IsTableEntry s e
 entry_from s e h = elim (eqb_tells e 72) [
   | inl t ↦ record {
     clean = λ _. eqb-true s 0 (sym (cond-true _ _ _ t.0) ∙ h);
@@ -119,5 +120,5 @@ entry_from s e h = elim (eqb_tells e 72) [
       ]
 ]
 
-pub entry_is : (s : ℕ) → s < 256 → IsEntry s (bit_of_syndrome s)
+pub entry_is : (s : ℕ) → s < 256 → IsTableEntry s (bit_of_syndrome s)
 entry_is s h = entry_from s (bit_of_syndrome s) (all_below_at is_entry 256 s entries h)

@@ -28,12 +28,12 @@ unfoldable pub check_bits : ℕ → ℕ
 check_bits v = xor_of column_at v 64
 
 -- the 72 bits with this data and these check bits
-abbrev pub word_of : ℕ → ℕ → ℕ
-word_of v check = v + check * 2 ^ 64
+abbrev pub code_bits : ℕ → ℕ → ℕ
+code_bits v check = v + check * 2 ^ 64
 
 -- the codeword of a word of data
 abbrev pub code : ℕ → ℕ
-code v = word_of v (check_bits v)
+code v = code_bits v (check_bits v)
 
 -- the syndrome of 72 bits, which is 0 at the codewords
 unfoldable pub syndrome_of : ℕ → ℕ
@@ -60,11 +60,11 @@ fix x = if syndrome_of x == 0 then Clean (data_of x) else fix_by_flip x 72
 unfoldable pub check_of_byte : ℕ → ℕ → ℕ
 check_of_byte k b = xor_of (λ i. column_at (8 * k + i)) b 8
 
--- the first place of a number in a list
-unfoldable pub place : ℕ → List ℕ → Option ℕ
-place c [] = None
-place c (d ∷ ds) = if d == c then Some 0 else option_map suc (place c ds)
+-- the first index of a number in a list
+unfoldable pub first_index : ℕ → List ℕ → Option ℕ
+first_index c [] = None
+first_index c (d ∷ ds) = if d == c then Some 0 else option_map suc (first_index c ds)
 
 -- 72 for the syndrome of a codeword, the bit whose column the syndrome is, and otherwise 73
 unfoldable pub bit_of_syndrome : ℕ → ℕ
-bit_of_syndrome s = if s == 0 then 72 else unwrap_or (place s columns) 73
+bit_of_syndrome s = if s == 0 then 72 else unwrap_or (first_index s columns) 73

@@ -1,5 +1,7 @@
 pub mod Code
-pub mod Linear
 pub mod Columns
-pub mod Reading
+pub mod LinearLaws
+pub mod ColumnLaws
+pub mod ReadingLaws
 pub mod Near
+pub mod NearLaws

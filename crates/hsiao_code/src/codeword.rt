@@ -1,7 +1,7 @@
 //! Codewords: their check bits, and what 72 bits stand for.
 
 ghost use Rattle.std.specs.Prelude.{◌≡◌, ◌≢◌, ℕ, ◌<◌, ◌^◌, bit_xor};
-ghost use Rattle.hsiao_code.specs.Code.{check_bits, word_of, code, flip, syndrome_of, fix};
+ghost use Rattle.hsiao_code.specs.Code.{check_bits, code_bits, code, flip, syndrome_of, fix};
 ghost use Rattle.hsiao_code.specs.declared.codeword.Decoded.TheVariants.{Clean, Fixed, Bad};
 
 use super::tables::{check_entry, syndrome_entry};
@@ -32,7 +32,7 @@ pub fn check_of(v: u64) -> u8
 /// set bits, which is 0 exactly for a codeword.
 pub fn syndrome(v: u64, check: u8) -> u8
     ensures by_parts { result ≡ bit_xor (check_bits v) check }
-    ensures whole { result ≡ syndrome_of (word_of v check) }
+    ensures whole { result ≡ syndrome_of (code_bits v check) }
 {
     check_of(v) ^ check
 }
@@ -42,10 +42,10 @@ pub fn syndrome(v: u64, check: u8) -> u8
 /// A codeword is read as it is, a codeword with one flipped bit as that codeword with the bit, and a
 /// codeword with two flipped bits is bad.
 pub fn read_code(v: u64, check: u8) -> Decoded
-    ensures exact { result ≡ fix (word_of v check) }
-    ensures clean { (d : ℕ) → d < 2 ^ 64 → word_of v check ≡ code d → result ≡ Clean d }
-    ensures one_flip { (d j : ℕ) → d < 2 ^ 64 → j < 72 → word_of v check ≡ flip (code d) j → result ≡ Fixed d j }
-    ensures two_flips { (d i j : ℕ) → d < 2 ^ 64 → i < 72 → j < 72 → i ≢ j → word_of v check ≡ flip (flip (code d) i) j → result ≡ Bad }
+    ensures exact { result ≡ fix (code_bits v check) }
+    ensures clean { (d : ℕ) → d < 2 ^ 64 → code_bits v check ≡ code d → result ≡ Clean d }
+    ensures one_flip { (d j : ℕ) → d < 2 ^ 64 → j < 72 → code_bits v check ≡ flip (code d) j → result ≡ Fixed d j }
+    ensures two_flips { (d i j : ℕ) → d < 2 ^ 64 → i < 72 → j < 72 → i ≢ j → code_bits v check ≡ flip (flip (code d) i) j → result ≡ Bad }
 {
     match syndrome_entry(syndrome(v, check)) {
         72 => Decoded::Clean(v),

@@ -8,10 +8,12 @@
 
 mod codeword;
 mod columns;
+mod laws;
 mod tables;
 
 pub use codeword::{Decoded, check_of, read_code, syndrome};
 pub use columns::column;
+pub use laws::columns_are_distinct_and_odd;
 pub use tables::{check_entry, syndrome_entry};
 
 #[cfg(test)]
@@ -62,16 +64,5 @@ mod tests {
         for (s, entry) in rows {
             assert_eq!(rt; syndrome_entry(s), entry, "{s:#x}");
         }
-        let mut clean = 0u32;
-        let mut fixed = 0u32;
-        let mut bad = 0u32;
-        for s in 0..=255u8 {
-            match syndrome_entry(s) {
-                72 => clean = clean.saturating_add(1),
-                73 => bad = bad.saturating_add(1),
-                _ => fixed = fixed.saturating_add(1),
-            }
-        }
-        assert_eq!(rt; (clean, fixed, bad), (1, 72, 183));
     }
 }

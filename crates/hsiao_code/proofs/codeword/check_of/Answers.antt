@@ -1,8 +1,8 @@
 use Rattle.std.proofs.Common.{◌∙◌, ap, ap₂, sym, arith, bit_xor, ◌*◌, ◌/◌, ◌^◌}
 use Rattle.std.proofs.lemmas.Nat.{and_mask}
 use Rattle.hsiao_code.specs.Code.{column_at, xor_of, check_bits, check_of_byte}
-use Rattle.hsiao_code.specs.Linear.{xor_of-zero}
-use Rattle.hsiao_code.specs.Reading.{byte_more}
+use Rattle.hsiao_code.specs.LinearLaws.{xor_of-zero}
+use Rattle.hsiao_code.specs.ReadingLaws.{byte_more}
 use Rattle.hsiao_code.proofs.codeword.check_of.Goals as goal
 
 pub loop-k-init : goal.loop-k-init

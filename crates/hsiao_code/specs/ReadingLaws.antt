@@ -7,18 +7,18 @@ use Rattle.std.specs.Int.{bit_at}
 use Rattle.std.specs.Int.Bits.{xor_assoc, xor_self, xor_zero_l, xor_zero_r}
 use Rattle.hsiao_code.specs.declared.codeword.Decoded.{Decoded}
 use Rattle.hsiao_code.specs.declared.codeword.Decoded.TheVariants.{Clean, Fixed, Bad}
-use Rattle.hsiao_code.specs.Code.{check_of_byte, column_at, xor_of, check_bits, word_of, code, syndrome_of, flip, data_of, fix_by_flip, fix}
-use Rattle.hsiao_code.specs.Linear.{xor_of-xor, xor_of-pow, xor_of_same, xor_of-add, xor_of-pows, xor_of_lt}
-use Rattle.hsiao_code.specs.Columns.{columns_apart, columns_sum, column_set, column_of_check, column_below}
+use Rattle.hsiao_code.specs.Code.{check_of_byte, column_at, xor_of, check_bits, code_bits, code, syndrome_of, flip, data_of, fix_by_flip, fix}
+use Rattle.hsiao_code.specs.LinearLaws.{xor_of-xor, xor_of-pow, xor_of_same, xor_of-add, xor_of-pows, xor_of_lt}
+use Rattle.hsiao_code.specs.ColumnLaws.{columns_apart, columns_sum, column_set, column_of_check, column_below}
 
 -- the syndrome of a word and its check bits
-pub syndrome_of-word : (v check : ℕ) → v < 2 ^ 64 → check < 2 ^ 8 → syndrome_of (word_of v check) ≡ bit_xor (check_bits v) check
+pub syndrome_of-bits : (v check : ℕ) → v < 2 ^ 64 → check < 2 ^ 8 → syndrome_of (code_bits v check) ≡ bit_xor (check_bits v) check
 unfolding syndrome_of check_bits
-syndrome_of-word v check p q =
-    xor_of-add column_at (word_of v check) 64 8
+syndrome_of-bits v check p q =
+    xor_of-add column_at (code_bits v check) 64 8
     ∙ ap₂ bit_xor
-    (xor_of_same column_at column_at (word_of v check) v 64 (λ i h. refl) (λ i h. ap (λ n. bit_at n i) (omega arith) ∙ bit_at_cat_low check 64 v i h))
-    (ap (λ x. xor_of (λ i. column_at (64 + i)) x 8) (let high : word_of v check / 2 ^ 64 ≡ check = omega arith in high)
+    (xor_of_same column_at column_at (code_bits v check) v 64 (λ i h. refl) (λ i h. ap (λ n. bit_at n i) (omega arith) ∙ bit_at_cat_low check 64 v i h))
+    (ap (λ x. xor_of (λ i. column_at (64 + i)) x 8) (let high : code_bits v check / 2 ^ 64 ≡ check = omega arith in high)
     ∙ xor_of_same (λ i. column_at (64 + i)) (λ i. 2 ^ i) check check 8 column_of_check (λ i h. refl)
     ∙ xor_of-pows check 8
     ∙ (let whole : check % 2 ^ 8 ≡ check = omega arith in whole))
@@ -63,11 +63,11 @@ unfolding fix
 fix_miss x some none = cond-false _ _ _ (ne_eqb (syndrome_of x) 0 some) ∙ fix_by_flip_miss x 72 (omega arith) none
 
 -- the data of a word with one bit flipped
-pub data_flipped : (v check j : ℕ) → v < 2 ^ 64 → data_of (flip (word_of v check) j) ≡ bit_xor v (2 ^ j % 2 ^ 64)
+pub data_flipped : (v check j : ℕ) → v < 2 ^ 64 → data_of (flip (code_bits v check) j) ≡ bit_xor v (2 ^ j % 2 ^ 64)
 data_flipped v check j p =
-    xor_mod (word_of v check) (2 ^ j) 64 ∙ ap (λ x. bit_xor x (2 ^ j % 2 ^ 64)) (let low : word_of v check % 2 ^ 64 ≡ v = omega arith in low)
+    xor_mod (code_bits v check) (2 ^ j) 64 ∙ ap (λ x. bit_xor x (2 ^ j % 2 ^ 64)) (let low : code_bits v check % 2 ^ 64 ≡ v = omega arith in low)
 
-pub data_kept : (v check j : ℕ) → v < 2 ^ 64 → 64 ≤ j → data_of (flip (word_of v check) j) ≡ v
+pub data_kept : (v check j : ℕ) → v < 2 ^ 64 → 64 ≤ j → data_of (flip (code_bits v check) j) ≡ v
 data_kept v check j p h =
     data_flipped v check j p
     ∙ ap (bit_xor v) (ap (λ k. 2 ^ k % 2 ^ 64) (let above : j ≡ (j - 64) + 64 = omega arith in above) ∙ ap (λ x. x % 2 ^ 64) (pow-add 2 (j - 64) 64) ∙ (let none : 2 ^ (j - 64) * 2 ^ 64 % 2 ^ 64 ≡ 0 = omega arith in none))
@@ -78,7 +78,7 @@ unfolding check_bits
 check_bits_lt v = xor_of_lt column_at 8 v 64 (λ i h. column_below i (omega arith))
 
 pub syndrome_of-code : (v : ℕ) → v < 2 ^ 64 → syndrome_of (code v) ≡ 0
-syndrome_of-code v p = syndrome_of-word v (check_bits v) p (check_bits_lt v) ∙ xor_self (check_bits v)
+syndrome_of-code v p = syndrome_of-bits v (check_bits v) p (check_bits_lt v) ∙ xor_self (check_bits v)
 
 pub flip_back : (x j : ℕ) → flip (flip x j) j ≡ x
 flip_back x j = xor_assoc x (2 ^ j) (2 ^ j) ∙ ap (bit_xor x) (xor_self (2 ^ j)) ∙ xor_zero_r x
@@ -104,31 +104,31 @@ fix_two_flips d i j p h k apart =
     (λ m q e. columns_sum i j m h k q (sym sum ∙ e))
 
 -- the same, from the parts of a word
-pub fix_parts_clean : (v check : ℕ) → v < 2 ^ 64 → check < 2 ^ 8 → bit_xor (check_bits v) check ≡ 0 → Clean v ≡ fix (word_of v check)
+pub fix_parts_clean : (v check : ℕ) → v < 2 ^ 64 → check < 2 ^ 8 → bit_xor (check_bits v) check ≡ 0 → Clean v ≡ fix (code_bits v check)
 fix_parts_clean v check p q e =
-    sym (fix_clean (word_of v check) (syndrome_of-word v check p q ∙ e) ∙ ap Clean (omega arith))
+    sym (fix_clean (code_bits v check) (syndrome_of-bits v check p q ∙ e) ∙ ap Clean (omega arith))
 
-pub fix_parts_data : (v check j : ℕ) → v < 2 ^ 64 → check < 2 ^ 8 → j < 64 → bit_xor (check_bits v) check ≡ column_at j → Fixed (bit_xor v (1 * 2 ^ j % 2 ^ 64)) j ≡ fix (word_of v check)
+pub fix_parts_data : (v check j : ℕ) → v < 2 ^ 64 → check < 2 ^ 8 → j < 64 → bit_xor (check_bits v) check ≡ column_at j → Fixed (bit_xor v (1 * 2 ^ j % 2 ^ 64)) j ≡ fix (code_bits v check)
 fix_parts_data v check j p q h e =
-    sym (fix_hit (word_of v check) j (omega arith) (syndrome_of-word v check p q ∙ e)
+    sym (fix_hit (code_bits v check) j (omega arith) (syndrome_of-bits v check p q ∙ e)
     ∙ ap (λ d. Fixed d j) (data_flipped v check j p ∙ ap (λ x. bit_xor v (x % 2 ^ 64)) (sym (one-mul (2 ^ j)))))
 
-pub fix_parts_check : (v check j : ℕ) → v < 2 ^ 64 → check < 2 ^ 8 → 64 ≤ j → j < 72 → bit_xor (check_bits v) check ≡ column_at j → Fixed v j ≡ fix (word_of v check)
+pub fix_parts_check : (v check j : ℕ) → v < 2 ^ 64 → check < 2 ^ 8 → 64 ≤ j → j < 72 → bit_xor (check_bits v) check ≡ column_at j → Fixed v j ≡ fix (code_bits v check)
 fix_parts_check v check j p q l h e =
-    sym (fix_hit (word_of v check) j h (syndrome_of-word v check p q ∙ e) ∙ ap (λ d. Fixed d j) (data_kept v check j p l))
+    sym (fix_hit (code_bits v check) j h (syndrome_of-bits v check p q ∙ e) ∙ ap (λ d. Fixed d j) (data_kept v check j p l))
 
-pub fix_parts_bad : (v check : ℕ) → v < 2 ^ 64 → check < 2 ^ 8 → bit_xor (check_bits v) check ≢ 0 → ((j : ℕ) → j < 72 → column_at j ≢ bit_xor (check_bits v) check) → Bad ≡ fix (word_of v check)
+pub fix_parts_bad : (v check : ℕ) → v < 2 ^ 64 → check < 2 ^ 8 → bit_xor (check_bits v) check ≢ 0 → ((j : ℕ) → j < 72 → column_at j ≢ bit_xor (check_bits v) check) → Bad ≡ fix (code_bits v check)
 fix_parts_bad v check p q some none =
-    sym (fix_miss (word_of v check) (λ z. some (sym (syndrome_of-word v check p q) ∙ z)) (λ j h e. none j h (sym e ∙ syndrome_of-word v check p q)))
+    sym (fix_miss (code_bits v check) (λ z. some (sym (syndrome_of-bits v check p q) ∙ z)) (λ j h e. none j h (sym e ∙ syndrome_of-bits v check p q)))
 
 -- the laws of the code, at what `fix` makes of a word
-pub clean_law : (v check : ℕ) (r : Decoded) → r ≡ fix (word_of v check) → (d : ℕ) → d < 2 ^ 64 → word_of v check ≡ code d → r ≡ Clean d
+pub clean_law : (v check : ℕ) (r : Decoded) → r ≡ fix (code_bits v check) → (d : ℕ) → d < 2 ^ 64 → code_bits v check ≡ code d → r ≡ Clean d
 clean_law v check r e d p w = e ∙ ap fix w ∙ fix_code d p
 
-pub one_flip_law : (v check : ℕ) (r : Decoded) → r ≡ fix (word_of v check) → (d j : ℕ) → d < 2 ^ 64 → j < 72 → word_of v check ≡ flip (code d) j → r ≡ Fixed d j
+pub one_flip_law : (v check : ℕ) (r : Decoded) → r ≡ fix (code_bits v check) → (d j : ℕ) → d < 2 ^ 64 → j < 72 → code_bits v check ≡ flip (code d) j → r ≡ Fixed d j
 one_flip_law v check r e d j p h w = e ∙ ap fix w ∙ fix_one_flip d j p h
 
-pub two_flips_law : (v check : ℕ) (r : Decoded) → r ≡ fix (word_of v check) → (d i j : ℕ) → d < 2 ^ 64 → i < 72 → j < 72 → i ≢ j → word_of v check ≡ flip (flip (code d) i) j → r ≡ Bad
+pub two_flips_law : (v check : ℕ) (r : Decoded) → r ≡ fix (code_bits v check) → (d i j : ℕ) → d < 2 ^ 64 → i < 72 → j < 72 → i ≢ j → code_bits v check ≡ flip (flip (code d) i) j → r ≡ Bad
 two_flips_law v check r e d i j p h k apart w = e ∙ ap fix w ∙ fix_two_flips d i j p h k apart
 
 -- one byte more
