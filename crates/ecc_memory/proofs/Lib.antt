@@ -1,3 +1,3 @@
-pub mod Counts
+pub mod Arrays
 pub mod Flips
 pub mod LineSteps

@@ -1,6 +1,7 @@
 pub mod Word
-pub mod WordStands
 pub mod Memory
+pub mod Words
 pub mod Lines
-pub mod LinesStand
-pub mod WordCounts
+pub mod Standing
+pub mod WordLaws
+pub mod LinesLaws

@@ -1,12 +1,8 @@
 -- The words of the memory.
-use Rattle.std.specs.Prelude.{ℕ, ◌≤◌, List, slice_index_or}
+use Rattle.std.specs.Prelude.{ℕ, List, slice_index_or}
 use Rattle.poison_mem.specs.declared.cell.CellState.{CellState}
-use Rattle.ecc_memory.specs.Word.{made}
+use Rattle.ecc_memory.specs.Word.{codeword_of}
 
 -- word w
-abbrev pub word_at : List CellState → ℕ → CellState
-word_at cells w = slice_index_or cells w (made 0)
-
--- no word counts more than three flips
-pub record CountsToThree (cells : List CellState) : Type 0 where
-  pub each : (w : ℕ) → (word_at cells w).count ≤ 3
+abbrev pub cell_at : List CellState → ℕ → CellState
+cell_at cells w = slice_index_or cells w (codeword_of 0)

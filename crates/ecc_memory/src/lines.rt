@@ -1,13 +1,16 @@
 //! The words of a line, in rising order.
 
-ghost use Rattle.std.specs.Prelude.{◌≡◌, ◌<◌, ◌≤◌, ◌+◌, ◌*◌, false, length, slice_set};
+ghost use Rattle.std.specs.Prelude.{◌≡◌, ◌<◌, ◌≤◌, ◌+◌, ◌*◌, length, slice_set};
 ghost use Rattle.poison_mem.specs.Bus.{logged_all};
+ghost use Rattle.poison_mem.specs.declared.record_id.RecordId.TheVariants.{Read};
+ghost use Rattle.ras_bits.specs.declared.map.TheConstants.{MOST_WORDS};
 ghost use Rattle.ecc_memory.specs.Word.{word_read, word_put};
-ghost use Rattle.ecc_memory.specs.Memory.{word_at, CountsToThree};
+ghost use Rattle.ecc_memory.specs.Memory.{cell_at};
 ghost use Rattle.ecc_memory.specs.Lines.{shown_at, shown_line, after_reads, read_events, after_puts};
 
 use crate::word::{log_event, put, read};
-use poison_mem::{Cell, CellState, EventLog, Line};
+use crate::words::Words;
+use poison_mem::{Cell, EventLog, Line, RecordId};
 
 /// A line before its first word was read.
 const UNREAD: Line = Line {
@@ -22,28 +25,27 @@ const UNREAD: Line = Line {
 };
 
 /// Reads word `w` of the memory.
-pub(crate) fn read_at<G: EventLog>(cells: &mut [CellState], w: u32, g: &mut G) -> Cell
+pub(crate) fn read_at<G: EventLog>(cells: &mut Words, w: u32, g: &mut G) -> Cell
     requires { w < length cells.old }
-    ensures cell { result ≡ (word_read false w (word_at cells.old w)).cell }
-    ensures after { cells.new ≡ slice_set cells.old w (word_read false w (word_at cells.old w)).after }
-    ensures events { g.new ≡ logged_all G.logged g.old (word_read false w (word_at cells.old w)).events }
+    ensures cell { result ≡ (word_read Read w (cell_at cells.old w)).cell }
+    ensures after { cells.new ≡ slice_set cells.old w (word_read Read w (cell_at cells.old w)).after }
+    ensures events { g.new ≡ logged_all G.logged g.old (word_read Read w (cell_at cells.old w)).events }
 {
-    let seen = read(false, w, cells[w as usize]);
-    cells[w as usize] = seen.after;
+    let seen = read(RecordId::Read, w, cells.get(w));
+    cells.set(w, seen.after);
     log_event(seen.event, g);
     seen.cell
 }
 
 /// Reads the words of line `l`.
 #[tactic(auto, using(crate::proofs::LineSteps::none_read, crate::proofs::LineSteps::none_logged))]
-pub(crate) fn read_words<G: EventLog>(cells: &mut [CellState], l: u32, g: &mut G) -> Line
+pub(crate) fn read_words<G: EventLog>(cells: &mut Words, l: u32, g: &mut G) -> Line
     requires range { 8 * l + 7 < length cells.old }
-    requires most { length cells.old ≤ 8388608 }
+    requires most { length cells.old ≤ MOST_WORDS }
     ensures cells { result ≡ shown_line cells.old l }
     ensures after { cells.new ≡ after_reads cells.old l 8 }
     ensures events { g.new ≡ logged_all G.logged g.old (read_events cells.old l 8) }
     ensures length { length cells.new ≡ length cells.old }
-    ensures counted { CountsToThree cells.old → CountsToThree cells.new }
 {
     let mut line = UNREAD;
     for i in 0..8u8 {
@@ -54,21 +56,20 @@ pub(crate) fn read_words<G: EventLog>(cells: &mut [CellState], l: u32, g: &mut G
 }
 
 /// Puts a cell into word `w` of the memory.
-pub(crate) fn put_at(cells: &mut [CellState], w: u32, cell: Cell)
+pub(crate) fn put_at(cells: &mut Words, w: u32, cell: Cell)
     requires { w < length cells.old }
-    ensures { cells.new ≡ slice_set cells.old w (word_put cell (word_at cells.old w)) }
+    ensures { cells.new ≡ slice_set cells.old w (word_put cell (cell_at cells.old w)) }
 {
-    cells[w as usize] = put(cell, cells[w as usize]);
+    cells.set(w, put(cell, cells.get(w)));
 }
 
 /// Puts the cells of line `l`.
 #[tactic(auto, using(crate::proofs::LineSteps::none_put))]
-pub(crate) fn put_words(cells: &mut [CellState], l: u32, line: &Line)
+pub(crate) fn put_words(cells: &mut Words, l: u32, line: &Line)
     requires range { 8 * l + 7 < length cells.old }
-    requires most { length cells.old ≤ 8388608 }
+    requires most { length cells.old ≤ MOST_WORDS }
     ensures after { cells.new ≡ after_puts cells.old l line.now 8 }
     ensures length { length cells.new ≡ length cells.old }
-    ensures counted { CountsToThree cells.old → CountsToThree cells.new }
 {
     for i in 0..8u8 {
         put_at(cells, 8 * l + i as u32, line.cell(i));
@@ -76,17 +77,17 @@ pub(crate) fn put_words(cells: &mut [CellState], l: u32, line: &Line)
 }
 
 /// What a read of word `w` would show.
-fn shown(cells: &[CellState], w: u32) -> Cell
+fn shown(cells: &Words, w: u32) -> Cell
     requires { w < length cells.now }
     ensures { result ≡ shown_at cells.now w }
 {
-    read(false, w, cells[w as usize]).cell
+    read(RecordId::Read, w, cells.get(w)).cell
 }
 
 /// What reads of the words of line `l` would show.
-pub(crate) fn shown_words(cells: &[CellState], l: u32) -> Line
+pub(crate) fn shown_words(cells: &Words, l: u32) -> Line
     requires range { 8 * l + 7 < length cells.now }
-    requires most { length cells.now ≤ 8388608 }
+    requires most { length cells.now ≤ MOST_WORDS }
     ensures { result ≡ shown_line cells.now l }
 {
     let first = 8 * l;

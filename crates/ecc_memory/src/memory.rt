@@ -1,54 +1,63 @@
 //! The memory.
 
-ghost use Rattle.std.specs.Prelude.{◌≡◌, ◌%◌, ◌≤◌, replicate, IfOk};
-ghost use Rattle.ecc_memory.specs.Word.{made};
+ghost use Rattle.std.specs.Prelude.{◌≡◌, ◌%◌, ◌≤◌, ℕ, replicate, IfOk};
+ghost use Rattle.poison_mem.specs.Level.{InRange};
+ghost use Rattle.ras_bits.specs.declared.map.TheConstants.{MOST_WORDS};
+ghost use Rattle.ecc_memory.specs.Word.{codeword_of};
+ghost use Rattle.ecc_memory.specs.Lines.{memory_level};
+ghost use Rattle.ecc_memory.specs.Standing.{LineStands};
 
 use crate::lines::{put_words, read_words, shown_words};
-use crate::word::{log_event, make, read, strike};
-use poison_mem::{Cell, CellState, EventLog, FlipMem, Line, LineMem};
+use crate::word::{is_third, log_event, make, scrub, strike};
+use crate::words::Words;
+use poison_mem::{CellState, EventLog, FlipMem, Line, LineMem};
 use ras_bits::NoMemory;
 use std::alloc::Global;
 use std::marker::Model;
 
 /// A memory of codewords.
 ///
-/// A read of a codeword gives its value, a read of one that is a flip away from it the corrected value and an event,
-/// and a read of any other marks the word as poison, with an event. A put makes a good word anew.
+/// A read of a codeword gives its value. A read of a word one flip away from a codeword gives that codeword's value, and
+/// an event. A read of any other marks the word as poison, with an event. A put makes a good word anew.
 #[derive(Drop)]
 pub struct EccMemory {
-    cells: Vec<CellState>,
+    cells: Words,
 }
 
 impl Model for EccMemory {
     ghost use Rattle.std.specs.Prelude.{List, length, ◌≤◌, ◌%◌, ◌≡◌};
     ghost use Rattle.poison_mem.specs.declared.cell.CellState.{CellState};
-    ghost use Rattle.ecc_memory.specs.Memory.{CountsToThree};
+    ghost use Rattle.ras_bits.specs.declared.map.TheConstants.{MOST_WORDS};
 
     ghost Value = { List CellState };
 
-    ghost view = { λ m. m.cells.items };
+    ghost view = { λ m. m.cells };
 
-    ghost invariant = { λ m. (length m.cells.items ≤ 8388608) × (length m.cells.items % 8 ≡ 0) × CountsToThree m.cells.items };
+    ghost invariant = { λ m. (length m.cells ≤ MOST_WORDS) × (length m.cells % 8 ≡ 0) };
 }
 
 impl EccMemory {
     /// A memory of this many words, each the codeword of zero. The one refusal is want of memory.
     ///
-    /// The number of words is a multiple of 8, at least 8 and at most 8,388,608.
+    /// The number of words is a multiple of 8, at least 8 and at most [`ras_bits::MOST_WORDS`].
     pub fn make(alloc: Global, words: u32) -> Result<EccMemory, NoMemory>
         requires lines { words % 8 ≡ 0 }
         requires some { 8 ≤ words }
-        requires most { words ≤ 8388608 }
-        ensures { IfOk result (λ memory. memory ≡ replicate words (made 0)) }
+        requires most { words ≤ MOST_WORDS }
+        ensures zero { IfOk result (λ memory. memory ≡ replicate words (codeword_of 0)) }
+
+        // Each line stands for zeros, whatever flips are told of its words.
+        ensures stands { IfOk result (λ memory. (l : ℕ) (q : ℕ → ℕ) → InRange memory_level memory l → LineStands memory l (λ _. 0) q) }
     {
-        let cells = vec![in alloc; make(0); words as usize]?;
+        let cells = Words::make(alloc, words as usize, make(0))?;
         Ok(EccMemory { cells })
     }
 }
 
 impl LineMem for EccMemory {
     ghost use Rattle.ecc_memory.specs.Lines.{memory_level};
-    ghost use Rattle.ecc_memory.specs.LinesStand.{HasWholeLines, LineStands, memory_lines_keep_words, memory_keeps_lines};
+    ghost use Rattle.ecc_memory.specs.Standing.{HasWholeLines, LineStands};
+    ghost use Rattle.ecc_memory.specs.LinesLaws.{memory_lines_keep_words, memory_keeps_lines};
 
     ghost level = { memory_level };
 
@@ -79,39 +88,37 @@ impl LineMem for EccMemory {
 
 impl FlipMem for EccMemory {
     ghost use Rattle.ecc_memory.specs.Lines.{memory_calls};
-    ghost use Rattle.ecc_memory.specs.LinesStand.{memory_cells_keep_words, memory_cells_keep_lines};
-    ghost use Rattle.ecc_memory.specs.WordCounts.{memory_counts_flips};
+    ghost use Rattle.ecc_memory.specs.LinesLaws.{memory_cells_keep_counts, memory_lines_keep_counts, memory_cells_keep_lines};
 
     ghost calls = { memory_calls };
 
-    ghost cells_keep_words = { memory_cells_keep_words };
+    ghost cells_keep_counts = { memory_cells_keep_counts };
+
+    ghost lines_keep_counts = { memory_lines_keep_counts };
 
     ghost cells_keep_lines = { memory_cells_keep_lines };
 
-    ghost cells_count_flips = { memory_counts_flips };
-
     fn load(&mut self, w: u32, v: u64) {
-        self.cells[w as usize] = make(v);
+        self.cells.set(w, make(v));
     }
 
-    #[tactic(auto, using(crate::proofs::Counts::counts_set))]
     fn strike(&mut self, w: u32, bit: u8) -> bool {
-        let word = self.cells[w as usize];
-        self.cells[w as usize] = strike(bit, word);
-        word.count == 2 && !word.mark
+        let word = self.cells.get(w);
+        self.cells.set(w, strike(bit, word));
+        is_third(word)
     }
 
-    #[tactic(auto, using(crate::proofs::Counts::counts_set))]
     fn scrub<G: EventLog>(&mut self, w: u32, g: &mut G) {
-        let seen = read(true, w, self.cells[w as usize]);
-        self.cells[w as usize] = match seen.cell {
-            Cell::Good(v) => make(v),
-            Cell::Poison => seen.after,
-        };
+        let seen = scrub(w, self.cells.get(w));
+        self.cells.set(w, seen.after);
         log_event(seen.event, g);
     }
 
     fn cell_state(&self, w: u32) -> CellState {
-        self.cells[w as usize]
+        self.cells.get(w)
+    }
+
+    fn set_cell(&mut self, w: u32, s: &CellState) {
+        self.cells.set(w, *s);
     }
 }

@@ -3,14 +3,13 @@
 ghost use Rattle.std.specs.Prelude.{◌≡◌, ◌<◌, ◌≤◌, ◌/◌, ◌%◌, ◌^◌};
 ghost use Rattle.std.specs.Option.{option_to_list};
 ghost use Rattle.poison_mem.specs.Bus.{logged_all};
-ghost use Rattle.hsiao_code.specs.Code.{word_of, flip};
-ghost use Rattle.ecc_memory.specs.Word.{event_of_word, corrected_event, bad_event, made, word_read, word_put, word_struck};
+ghost use Rattle.hsiao_code.specs.Code.{code_bits, flip};
+ghost use Rattle.poison_mem.specs.Cells.{is_third};
+ghost use Rattle.ecc_memory.specs.Word.{event_of_word, corrected_event, codeword_of, word_read, word_put, word_struck, word_scrubbed};
 
 use hsiao_code::{Decoded, check_of, read_code};
-use poison_mem::{Cell, CellState, Class, Event, EventLog};
-
-/// The physical address of word 0.
-const RAM_START: u64 = 0x8000_0000;
+use poison_mem::{Cell, CellState, Event, EventKind, EventLog, RecordId};
+use ras_bits::word_address;
 
 /// What a read of a word shows, and what it leaves.
 #[derive(Drop)]
@@ -20,48 +19,30 @@ pub(crate) struct Seen {
     pub(crate) event: Option<Event>,
 }
 
-/// What the events of word `w` have in common.
-fn event_at(scrub: bool, w: u32) -> Event
-    ensures { result ≡ event_of_word scrub w }
+/// An event of word `w` for a record.
+fn event_at(kind: EventKind, id: RecordId, w: u32) -> Event
+    ensures { result ≡ event_of_word kind id w }
 {
-    Event {
-        rec: if scrub { 1 } else { 0 },
-        scrub,
-        addr: RAM_START + 8 * w as u64,
-        ..Event::default()
-    }
+    Event::new(kind, id.bank(), id.record(), word_address(w))
 }
 
 /// The event of a corrected word.
-fn corrected(scrub: bool, w: u32, bit: u8) -> Event
-    ensures { result ≡ corrected_event scrub w bit }
+fn corrected(id: RecordId, w: u32, bit: u8) -> Event
+    ensures { result ≡ corrected_event id w bit }
 {
     Event {
-        class: Class::Corrected,
-        code: 1,
-        info: bit as u64,
-        ..event_at(scrub, w)
+        info: u64::from(bit),
+        ..event_at(EventKind::CorrectedWord, id, w)
     }
 }
 
-/// The event of a word that was found bad.
-fn found_bad(scrub: bool, w: u32) -> Event
-    ensures { result ≡ bad_event scrub w }
-{
-    Event {
-        class: Class::Deferred,
-        pri: 1,
-        code: 2,
-        ..event_at(scrub, w)
-    }
-}
-
-/// Reads word `w`. A marked word is poison, a corrected one stays as it is, and a bad one is marked.
+/// Reads word `w`, with its event for a record. A marked word is poison, a corrected one stays as it is, and a bad one is
+/// marked.
 #[tactic(auto, unfolding(crate::specs::Word::word_read))]
-pub(crate) fn read(scrub: bool, w: u32, word: CellState) -> Seen
-    ensures cell { result.cell ≡ (word_read scrub w word).cell }
-    ensures after { result.after ≡ (word_read scrub w word).after }
-    ensures events { option_to_list result.event ≡ (word_read scrub w word).events }
+pub(crate) fn read(id: RecordId, w: u32, word: CellState) -> Seen
+    ensures cell { result.cell ≡ (word_read id w word).cell }
+    ensures after { result.after ≡ (word_read id w word).after }
+    ensures events { option_to_list result.event ≡ (word_read id w word).events }
     ensures counted { result.after.count ≡ word.count }
 {
     let (cell, mark, event) = if word.mark {
@@ -69,8 +50,12 @@ pub(crate) fn read(scrub: bool, w: u32, word: CellState) -> Seen
     } else {
         match read_code(word.value, word.check) {
             Decoded::Clean(v) => (Cell::Good(v), false, None),
-            Decoded::Fixed(v, bit) => (Cell::Good(v), false, Some(corrected(scrub, w, bit))),
-            Decoded::Bad => (Cell::Poison, true, Some(found_bad(scrub, w))),
+            Decoded::Fixed(v, bit) => (Cell::Good(v), false, Some(corrected(id, w, bit))),
+            Decoded::Bad => (
+                Cell::Poison,
+                true,
+                Some(event_at(EventKind::BadWord, id, w)),
+            ),
         }
     };
     Seen {
@@ -82,7 +67,7 @@ pub(crate) fn read(scrub: bool, w: u32, word: CellState) -> Seen
 
 /// The codeword of a value, unmarked, with no flips counted.
 pub(crate) fn make(v: u64) -> CellState
-    ensures { result ≡ made v }
+    ensures { result ≡ codeword_of v }
 {
     CellState {
         value: v,
@@ -110,8 +95,8 @@ pub(crate) fn put(cell: Cell, word: CellState) -> CellState
 #[tactic(auto, using(crate::proofs::Flips::flip_in_data, crate::proofs::Flips::data_flip_keeps_check, crate::proofs::Flips::check_flip_keeps_data, crate::proofs::Flips::flip_in_check))]
 fn flip(bit: u8, value: u64, check: u8) -> (u64, u8)
     requires { bit < 72 }
-    ensures data_bits { result.0 ≡ flip (word_of value check) bit % 2 ^ 64 }
-    ensures check_bits { result.1 ≡ flip (word_of value check) bit / 2 ^ 64 }
+    ensures data_bits { result.0 ≡ flip (code_bits value check) bit % 2 ^ 64 }
+    ensures check_bits { result.1 ≡ flip (code_bits value check) bit / 2 ^ 64 }
 {
     if bit < 64 {
         (value ^ (1 << bit), check)
@@ -139,6 +124,29 @@ pub(crate) fn strike(bit: u8, word: CellState) -> CellState
         mark: word.mark,
         count,
     }
+}
+
+/// Scrubs word `w`: it is read, with its event for the record of scrubs, and put again where it is good.
+pub(crate) fn scrub(w: u32, word: CellState) -> Seen
+    ensures after { result.after ≡ (word_scrubbed w word).after }
+    ensures events { option_to_list result.event ≡ (word_scrubbed w word).events }
+    ensures counted { result.after.count ≤ word.count }
+{
+    let seen = read(RecordId::Scrub, w, word);
+    Seen {
+        after: match seen.cell {
+            Cell::Good(_) => put(seen.cell, seen.after),
+            Cell::Poison => seen.after,
+        },
+        ..seen
+    }
+}
+
+/// Whether one more flip of a word is a third one: it counts two, and isn't marked.
+pub(crate) fn is_third(word: CellState) -> bool
+    ensures { result ≡ is_third word }
+{
+    word.count == 2 && !word.mark
 }
 
 /// Logs the event of a read, where there is one.

@@ -1,9 +1,8 @@
-use Rattle.std.proofs.Common.{◌≡◌, ◌+◌, ◌*◌, arith, refl}
-use Rattle.poison_mem.specs.Logs.{logged_append}
+use Rattle.std.proofs.Common.{◌+◌, ◌*◌, arith, refl}
+use Rattle.poison_mem.specs.BusLaws.{logged_append}
 use Rattle.poison_mem.specs.LineLaws.{one_more_cell}
 use Rattle.ecc_memory.specs.Lines.{shown_at}
-use Rattle.ecc_memory.specs.WordCounts.{memory_counts_flips}
-use Rattle.ecc_memory.proofs.Counts.{counts_no_more}
+use Rattle.ecc_memory.specs.LinesLaws.{reads-words}
 use Rattle.ecc_memory.proofs.LineSteps.{unread, one_more_read, one_more_logged}
 use Rattle.ecc_memory.proofs.lines.read_words.Goals as goal
 
@@ -19,7 +18,11 @@ loop-i-preserved g c =
       events = rw (read.events, kept.cells, kept.events, one_more_logged, logged_append) refl;
     }
 
-pub returns-clause-counted : goal.returns-clause-counted
-returns-clause-counted g c = λ all.
-    let whole : c.loop-i.i ≡ 8 = (let most = c.loop-i.auto.i-end in let least = c.loop-i-test.false in omega arith) in
-    rw (c.loop-i.invariant.cells, whole) (counts_no_more c.args.cells.now _ (memory_counts_flips.get c.args.cells.now c.args.l) all)
+pub read_at-cell-requires : goal.read_at-cell-requires
+read_at-cell-requires g c =
+    let range = c.requires.range in
+    let below = c.loop-i-test.true in
+    rw (c.loop-i.invariant.cells, reads-words c.args.l c.args.cells.now c.loop-i.i) (omega arith)
+
+pub returns-clause-length : goal.returns-clause-length
+returns-clause-length g c = rw c.loop-i.invariant.cells (reads-words c.args.l c.args.cells.now c.loop-i.i)
