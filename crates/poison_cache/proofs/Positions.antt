@@ -1,7 +1,7 @@
 -- The position of an entry.
 use Rattle.std.proofs.Common.{◌≡◌, ◌<◌, ◌∙◌, ℕ, ◌∷◌, ◌++◌, List, length, take, drop, get_or, sym, ap, cond, suc, Some, eq-eqb, drop-cons}
 use Rattle.std.proofs.lemmas.Option.{slice_get-get_or}
-use Rattle.poison_cache.specs.declared.recent.Held.{Held}
+use Rattle.poison_mem.specs.declared.cache_state.Held.{Held}
 use Rattle.poison_cache.specs.Recent.{entry_of, without, IsPositionOf}
 
 -- an entry that was found after none before

@@ -1,58 +1,51 @@
--- A write-back cache over any level: lists of the most recently used lines.
-use Rattle.std.specs.Prelude.{ℕ, ◌+◌, ◌-◌, ◌*◌, ◌%◌, ◌/◌, ◌==◌, ◌&&◌, List, [], ◌∷◌, ◌++◌, Option, None, Some, Bool, true, false, length, take, drop, nat_lt, zero, suc, slice_get, slice_set, slice_index_or}
+-- A write-back cache over any level: lists of the most recently used lines (its events and its poison: RERI 1.0, data poisoning).
+use Rattle.std.specs.Prelude.{ℕ, ◌+◌, ◌-◌, ◌*◌, ◌%◌, ◌/◌, List, [], ◌∷◌, ◌++◌, Option, None, Some, Bool, true, false, length, take, drop, nat_lt, zero, suc, slice_get, slice_set, slice_index_or}
 use Rattle.poison_mem.specs.declared.cell.Cell.{Cell}
 use Rattle.poison_mem.specs.declared.cell.Cell.TheVariants.{Good, Poison}
 use Rattle.poison_mem.specs.declared.line.Line.{Line}
-use Rattle.poison_cache.specs.declared.recent.Held.{Held}
+use Rattle.poison_mem.specs.declared.cache_state.Held.{Held}
 use Rattle.poison_mem.specs.declared.event.Event.{Event}
-use Rattle.poison_mem.specs.declared.event.Class.TheVariants.{Deferred}
+use Rattle.poison_mem.specs.declared.event.EventKind.TheVariants.{PoisonWrittenBack}
+use Rattle.ras_bits.specs.Map.{word_address}
+use Rattle.poison_mem.specs.Event.{event_of}
 use Rattle.poison_mem.specs.Line.{cell, with_cell}
 use Rattle.poison_mem.specs.Merge.{merged_cell}
-use Rattle.poison_mem.specs.Level.{Level, LineReading, CellCalls}
+use Rattle.poison_mem.specs.Cells.{CellCalls}
+use Rattle.poison_mem.specs.Level.{Level, LineReading}
 use Rattle.poison_mem.specs.Bus.{Storing}
-use Rattle.poison_cache.specs.declared.cache.Place.{Place}
+use Rattle.poison_cache.specs.LogTo.{LogTo}
 use Rattle.poison_cache.specs.Recent.{entry_of, without}
 
--- a cache over a level with states S: its lists of entries, the most recent first, where it logs, and the state below
+-- a cache over a level with states S: its lists of entries, the most recent first, where it logs, and the level below
 pub record CachedLines (S : Type 0) : Type 0 where
   pub lists : List (List Held)
-  pub place : Place
+  pub log_to : LogTo
   pub below : S
 
--- the event of a poisoned word that is put down; its scrub flag is that of bank 0, record 1
-abbrev pub put_down_event : Place → ℕ → Event
-put_down_event place word = record {
-  bank = place.bank;
-  rec = place.rec;
-  class = Deferred;
-  pri = 1;
-  code = 3;
-  scrub = (place.bank == 0) && (place.rec == 1);
-  addr = 0x8000_0000 + 8 * word;
-  info = 0;
-  suppl = 0;
-  at = 0;
-}
+-- the event of a poisoned word that is written back
+abbrev pub write_back_event : LogTo → ℕ → Event
+write_back_event log_to word = event_of PoisonWrittenBack log_to.bank log_to.rec (word_address word)
 
 -- none for a good cell, one for poison
-abbrev pub cell_event : Place → ℕ → Cell → List Event
-cell_event place word (Good v) = []
-cell_event place word Poison = put_down_event place word ∷ []
+abbrev pub cell_event : LogTo → ℕ → Cell → List Event
+cell_event log_to word (Good v) = []
+cell_event log_to word Poison = write_back_event log_to word ∷ []
 
 -- one event for each poisoned word of the first n of a line, in rising order
-abbrev pub poison_events : Place → ℕ → Line → ℕ → List Event
-poison_events place l cells zero = []
-poison_events place l cells (suc n) = poison_events place l cells n ++ cell_event place (8 * l + n) (cell cells n)
+abbrev pub poison_events : LogTo → ℕ → Line → ℕ → List Event
+poison_events log_to l cells zero = []
+poison_events log_to l cells (suc n) = poison_events log_to l cells n ++ cell_event log_to (8 * l + n) (cell cells n)
 
--- an entry goes out of the list: a dirty one is put below, after its events
-abbrev pub put_down_as : {S : Type 0} → Bool → Level S → Place → Held → S → Storing S
-put_down_as true level place h below =
+-- the level below after an entry was evicted: a dirty one is written back, after its events
+abbrev pub evicted_as : {S : Type 0} → Bool → Level S → LogTo → Held → S → Storing S
+evicted_as true level log_to h below =
     let after = level.put below h.line h.cells in
-    record { after = after.after; events = poison_events place h.line h.cells 8 ++ after.events }
-put_down_as false level place h below = record { after = below; events = [] }
+    record { after = after.after; events = poison_events log_to h.line h.cells 8 ++ after.events }
+evicted_as false level log_to h below = record { after = below; events = [] }
 
-unfoldable pub put_down : {S : Type 0} → Level S → Place → Held → S → Storing S
-put_down level place h below = put_down_as h.dirty level place h below
+-- a line is given up: a dirty one is written back
+unfoldable pub evicted : {S : Type 0} → Level S → LogTo → Held → S → Storing S
+evicted level log_to h below = evicted_as h.dirty level log_to h below
 
 -- a list and the level below, with the events on the way
 pub record Room (S : Type 0) : Type 0 where
@@ -60,23 +53,25 @@ pub record Room (S : Type 0) : Type 0 where
   pub below : S
   pub events : List Event
 
+-- nothing is done
 abbrev pub unchanged : {S : Type 0} → List Held → S → Room S
 unchanged entries below = record { entries = entries; below = below; events = [] }
 
--- the last entry goes out
-abbrev pub without_last : {S : Type 0} → Option Held → Level S → Place → List Held → S → Room S
-without_last None level place entries below = unchanged entries below
-without_last (Some h) level place entries below =
-    let after = put_down level place h below in
+-- the victim of a full list is its last entry
+abbrev pub without_victim : {S : Type 0} → Option Held → Level S → LogTo → List Held → S → Room S
+without_victim None level log_to entries below = unchanged entries below
+without_victim (Some h) level log_to entries below =
+    let after = evicted level log_to h below in
     record { entries = take (length entries - 1) entries; below = after.after; events = after.events }
 
-abbrev pub room_as : {S : Type 0} → Bool → Level S → Place → List Held → S → Room S
-room_as true level place entries below = unchanged entries below
-room_as false level place entries below = without_last (slice_get entries (length entries - 1)) level place entries below
+-- where the list has room nothing is done, else its victim is evicted
+abbrev pub room_as : {S : Type 0} → Bool → Level S → LogTo → List Held → S → Room S
+room_as true level log_to entries below = unchanged entries below
+room_as false level log_to entries below = without_victim (slice_get entries (length entries - 1)) level log_to entries below
 
--- room for one more entry: a full list drops its last
-unfoldable pub room_in : {S : Type 0} → Level S → Place → ℕ → List Held → S → Room S
-room_in level place ways entries below = room_as (nat_lt (length entries) ways) level place entries below
+-- room for one more entry: a full list evicts its last
+unfoldable pub room_in : {S : Type 0} → Level S → LogTo → ℕ → List Held → S → Room S
+room_in level log_to ways entries below = room_as (nat_lt (length entries) ways) level log_to entries below
 
 -- what a list and the level below it show for a line
 pub record Shown (S : Type 0) : Type 0 where
@@ -86,10 +81,10 @@ pub record Shown (S : Type 0) : Type 0 where
   pub events : List Event
 
 -- a hit moves the entry to the front; a miss makes room, gets the line from below, and puts it in front, clean
-abbrev pub get_as : {S : Type 0} → Option Held → Level S → Place → ℕ → List Held → S → ℕ → Shown S
-get_as (Some h) level place ways entries below l = record { cells = h.cells; entries = h ∷ without l entries; below = below; events = [] }
-get_as None level place ways entries below l =
-    let room = room_in level place ways entries below in
+abbrev pub get_as : {S : Type 0} → Option Held → Level S → LogTo → ℕ → List Held → S → ℕ → Shown S
+get_as (Some h) level log_to ways entries below l = record { cells = h.cells; entries = h ∷ without l entries; below = below; events = [] }
+get_as None level log_to ways entries below l =
+    let room = room_in level log_to ways entries below in
     let got = level.get room.below l in
     record {
       cells = got.cells;
@@ -98,18 +93,20 @@ get_as None level place ways entries below l =
       events = room.events ++ got.events;
     }
 
-unfoldable pub get_in : {S : Type 0} → Level S → Place → ℕ → List Held → S → ℕ → Shown S
-get_in level place ways entries below l = get_as (entry_of l entries) level place ways entries below l
+-- a line is read in its set: a hit moves it to the front, a miss reads it from below
+unfoldable pub get_in : {S : Type 0} → Level S → LogTo → ℕ → List Held → S → ℕ → Shown S
+get_in level log_to ways entries below l = get_as (entry_of l entries) level log_to ways entries below l
 
 -- the cells are put in front, dirty, after room was made on a miss
-abbrev pub put_as : {S : Type 0} → Option Held → Level S → Place → ℕ → List Held → S → ℕ → Line → Room S
-put_as (Some h) level place ways entries below l cells = record { entries = record { line = l; dirty = true; cells = cells } ∷ without l entries; below = below; events = [] }
-put_as None level place ways entries below l cells =
-    let room = room_in level place ways entries below in
+abbrev pub put_as : {S : Type 0} → Option Held → Level S → LogTo → ℕ → List Held → S → ℕ → Line → Room S
+put_as (Some h) level log_to ways entries below l cells = record { entries = record { line = l; dirty = true; cells = cells } ∷ without l entries; below = below; events = [] }
+put_as None level log_to ways entries below l cells =
+    let room = room_in level log_to ways entries below in
     record { entries = record { line = l; dirty = true; cells = cells } ∷ room.entries; below = room.below; events = room.events }
 
-unfoldable pub put_in : {S : Type 0} → Level S → Place → ℕ → List Held → S → ℕ → Line → Room S
-put_in level place ways entries below l cells = put_as (entry_of l entries) level place ways entries below l cells
+-- the cells of a line are put into its set, by whether it is held
+unfoldable pub put_in : {S : Type 0} → Level S → LogTo → ℕ → List Held → S → ℕ → Line → Room S
+put_in level log_to ways entries below l cells = put_as (entry_of l entries) level log_to ways entries below l cells
 
 -- the list of a line
 abbrev pub list_of : {S : Type 0} → ℕ → CachedLines S → ℕ → List Held
@@ -117,18 +114,21 @@ list_of sets s l = slice_index_or s.lists (l % sets) []
 
 -- the state with another list for a line, and another state below
 abbrev pub with_list : {S : Type 0} → ℕ → CachedLines S → ℕ → List Held → S → CachedLines S
-with_list sets s l entries below = record { lists = slice_set s.lists (l % sets) entries; place = s.place; below = below }
+with_list sets s l entries below = record { lists = slice_set s.lists (l % sets) entries; log_to = s.log_to; below = below }
 
+-- a read of a line
 unfoldable pub cache_get : {S : Type 0} → ℕ → ℕ → Level S → CachedLines S → ℕ → LineReading (CachedLines S)
 cache_get sets ways level s l =
-    let shown = get_in level s.place ways (list_of sets s l) s.below l in
+    let shown = get_in level s.log_to ways (list_of sets s l) s.below l in
     record { cells = shown.cells; after = with_list sets s l shown.entries shown.below; events = shown.events }
 
+-- a put of a line
 unfoldable pub cache_put : {S : Type 0} → ℕ → ℕ → Level S → CachedLines S → ℕ → Line → Storing (CachedLines S)
 cache_put sets ways level s l cells =
-    let room = put_in level s.place ways (list_of sets s l) s.below l cells in
+    let room = put_in level s.log_to ways (list_of sets s l) s.below l cells in
     record { after = with_list sets s l room.entries room.below; events = room.events }
 
+-- the held cells, or those that the level below shows
 abbrev pub peek_as : {S : Type 0} → Option Held → Level S → S → ℕ → Line
 peek_as (Some h) level below l = h.cells
 peek_as None level below l = level.peek below l
@@ -151,20 +151,21 @@ abbrev pub cache_calls : {S : Type 0} → CellCalls S → CellCalls (CachedLines
 cache_calls calls = record {
   load = λ s w v. record s { below = calls.load s.below w v };
   strike = λ s w bit. record s { below = calls.strike s.below w bit };
-  is_third = λ s w. calls.is_third s.below w;
   scrub = λ s w. (let after = calls.scrub s.below w in record { after = record s { below = after.after }; events = after.events });
   cell = λ s w. calls.cell s.below w;
+  set_cell = λ s w state. record s { below = calls.set_cell s.below w state };
 }
 
--- a store: a get, then the merge of one cell, then dirty
-unfoldable pub store_in : {S : Type 0} → Level S → Place → ℕ → List Held → S → ℕ → ℕ → ℕ → Room S
-store_in level place ways entries below w v mask =
+-- a store: a get, which leaves the line's entry in front, then that entry again with one cell merged, dirty
+unfoldable pub store_in : {S : Type 0} → Level S → LogTo → ℕ → List Held → S → ℕ → ℕ → ℕ → Room S
+store_in level log_to ways entries below w v mask =
     let l = w / 8 in
-    let shown = get_in level place ways entries below l in
+    let shown = get_in level log_to ways entries below l in
     let cells = with_cell shown.cells (w % 8) (merged_cell (cell shown.cells (w % 8)) v mask) in
     record { entries = record { line = l; dirty = true; cells = cells } ∷ drop 1 shown.entries; below = shown.below; events = shown.events }
 
+-- a store of the bytes of a mask into a word
 unfoldable pub cache_store : {S : Type 0} → ℕ → ℕ → Level S → CachedLines S → ℕ → ℕ → ℕ → Storing (CachedLines S)
 cache_store sets ways level s w v mask =
-    let room = store_in level s.place ways (list_of sets s (w / 8)) s.below w v mask in
+    let room = store_in level s.log_to ways (list_of sets s (w / 8)) s.below w v mask in
     record { after = with_list sets s (w / 8) room.entries room.below; events = room.events }

@@ -1,9 +1,12 @@
+pub mod LogTo
 pub mod Recent
 pub mod Sound
 pub mod SoundLaws
+pub mod RecentLaws
 pub mod Cache
 pub mod Below
-pub mod SameWords
-pub mod Counts
-pub mod Entries
-pub mod Stands
+pub mod BelowLaws
+pub mod WordsLaws
+pub mod CountsLaws
+pub mod Standing
+pub mod StandingLaws

@@ -1,6 +1,9 @@
 -- The entries of one set, the most recent first.
-use Rattle.std.specs.Prelude.{ℕ, ◌==◌, ◌<◌, ◌≡◌, List, [], ◌∷◌, Option, None, Some, if◌then◌else◌, length, remove, slice_get}
-use Rattle.poison_cache.specs.declared.recent.Held.{Held}
+use Rattle.std.specs.Prelude.{ℕ, ◌==◌, ◌<◌, ◌≡◌, ◌-◌, List, [], ◌∷◌, Option, None, Some, true, nat_lt, if◌then◌else◌, length, take, remove, slice_get}
+use Rattle.poison_mem.specs.declared.cache_state.Held.{Held}
+use Rattle.poison_mem.specs.declared.line.Line.{Line}
+use Rattle.poison_mem.specs.Line.{cell, with_cell}
+use Rattle.poison_mem.specs.Merge.{merged_cell}
 
 -- the entry of a line, in a list of entries
 abbrev pub entry_of : ℕ → List Held → Option Held
@@ -11,6 +14,27 @@ entry_of l (h ∷ hs) = if h.line == l then Some h else entry_of l hs
 abbrev pub without : ℕ → List Held → List Held
 without l [] = []
 without l (h ∷ hs) = if h.line == l then hs else h ∷ without l hs
+
+-- a list after a hit: what became of the line's entry is in front; a list without it stays
+abbrev pub renewed_as : Option Held → (Held → Held) → ℕ → List Held → List Held
+renewed_as None renew l hs = hs
+renewed_as (Some h) renew l hs = renew h ∷ without l hs
+
+-- an entry with other cells, to be written back
+abbrev pub with_cells : Held → Line → Held
+with_cells h cells = record { line = h.line; dirty = true; cells = cells }
+
+-- an entry after a store into one of its cells
+abbrev pub stored_into : ℕ → ℕ → ℕ → Held → Held
+stored_into i v mask h = with_cells h (with_cell h.cells i (merged_cell (cell h.cells i) v mask))
+
+-- the victim of a full list, and the list with room for one more entry
+abbrev pub victim_of : ℕ → List Held → Option Held
+victim_of ways hs = if nat_lt (length hs) ways then None else slice_get hs (length hs - 1)
+
+-- a list without its victim, where it is full
+abbrev pub with_room : ℕ → List Held → List Held
+with_room ways hs = if nat_lt (length hs) ways then hs else take (length hs - 1) hs
 
 -- where the entry of a line is: none where there is no entry of it
 abbrev pub IsPositionOf : ℕ → List Held → Option ℕ → Type 0

@@ -3,5 +3,7 @@
 
 mod cache;
 mod recent;
+mod sets;
 
 pub use cache::Cache;
+pub use sets::MOST_HELD;

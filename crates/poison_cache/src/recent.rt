@@ -1,47 +1,16 @@
 //! The entries of one set, the most recent first.
 
-ghost use Rattle.std.specs.Prelude.{◌≡◌, true, false, ◌<◌, ◌≤◌, ◌-◌, ◌+◌, ℕ, [], ◌∷◌, length, take, remove, slice_get, IfOk, OnSome, IfNone, IsTrue, ◌↔◌};
-ghost use Rattle.poison_cache.specs.Recent.{entry_of, without, IsPositionOf};
+ghost use Rattle.std.specs.Prelude.{◌≡◌, ◌<◌, ◌≤◌, ◌-◌, ◌+◌, ℕ, [], ◌∷◌, get_or, length, take, remove, slice_get, IfOk};
+ghost use Rattle.std.specs.Option.{option_map, is_some};
+ghost use Rattle.poison_mem.specs.Line.{cell};
+ghost use Rattle.poison_cache.specs.Recent.{entry_of, without, renewed_as, with_cells, stored_into, victim_of, with_room, IsPositionOf};
 
-use poison_mem::Line;
+use poison_mem::{Cell, Held, Line, merge};
 use ras_bits::NoMemory;
 use std::alloc::Global;
 use std::marker::Model;
 
-/// A line that a set holds.
-#[derive(Clone, Copy, Debug)]
-pub(crate) struct Held {
-    pub(crate) line: u32,
-    /// Whether it differs from the level below.
-    pub(crate) dirty: bool,
-    pub(crate) cells: Line,
-}
-
-impl Held {
-    /// A line as the level below has it.
-    pub(crate) fn clean(line: u32, cells: Line) -> Held
-        ensures { result ≡ record { line = line; dirty = false; cells = cells } }
-    {
-        Held {
-            line,
-            dirty: false,
-            cells,
-        }
-    }
-
-    /// A line that must be put below when it goes out.
-    pub(crate) fn dirty(line: u32, cells: Line) -> Held
-        ensures { result ≡ record { line = line; dirty = true; cells = cells } }
-    {
-        Held {
-            line,
-            dirty: true,
-            cells,
-        }
-    }
-}
-
-/// Where the entry of a line is.
+/// The index of a line's entry.
 fn position_of(entries: &[Held], line: u32) -> Option<usize>
     ensures { IsPositionOf line entries.now result }
 {
@@ -62,7 +31,7 @@ pub(crate) struct Recent<const WAYS: usize> {
 impl<const WAYS: usize> Model for Recent<WAYS> {
     ghost use Rattle.std.specs.Prelude.{◌≤◌, List, length};
     ghost use Rattle.std.specs.Vec.{vec_capacity};
-    ghost use Rattle.poison_cache.specs.declared.recent.Held.{Held};
+    ghost use Rattle.poison_mem.specs.declared.cache_state.Held.{Held};
 
     ghost Value = { List Held };
 
@@ -81,50 +50,114 @@ impl<const WAYS: usize> Recent<WAYS> {
         })
     }
 
-    pub(crate) fn is_full(&self) -> bool
-        ensures full { IsTrue result ↔ (WAYS ≤ length self.now) }
-        ensures bound { length self.now ≤ WAYS }
+    /// Moves an entry to the front. The most recent one stays where it is.
+    fn promote(&mut self, position: usize)
+        requires { position < length self.old }
+        ensures { (d : Held) → self.new ≡ get_or self.old position d ∷ remove self.old position }
     {
-        self.entries.len() >= WAYS
+        if position > 0 {
+            let held = self.entries.remove(position);
+            match self.entries.insert(0, held) {
+                Ok(()) => (),
+                Err(_) => unreachable!(),
+            }
+        }
     }
 
-    /// The entry of a line.
-    pub(crate) fn entry(&self, line: u32) -> Option<Held>
-        ensures { result ≡ entry_of line self.now }
+    /// The cells of a line.
+    pub(crate) fn cells(&self, line: u32) -> Option<Line>
+        ensures { result ≡ option_map (λ h. h.cells) (entry_of line self.now) }
     {
         match position_of(&self.entries, line) {
-            Some(position) => Some(self.entries[position]),
+            Some(position) => Some(self.entries[position].cells),
             None => None,
         }
     }
 
-    /// Takes the entry of a line out.
-    pub(crate) fn take(&mut self, line: u32) -> Option<Held>
-        ensures value { result ≡ entry_of line self.old }
-        ensures rest { self.new ≡ without line self.old }
-        ensures room { OnSome result (length self.new < WAYS) }
-        ensures none { IfNone result (self.new ≡ self.old) }
+    /// The cells of a line, which is the most recent then.
+    pub(crate) fn read_cells(&mut self, line: u32) -> Option<Line>
+        ensures cells { result ≡ option_map (λ h. h.cells) (entry_of line self.old) }
+        ensures after { self.new ≡ renewed_as (entry_of line self.old) (λ h. h) line self.old }
     {
         match position_of(&self.entries, line) {
-            Some(position) => Some(self.entries.remove(position)),
+            Some(position) => {
+                self.promote(position);
+                Some(self.entries[0].cells)
+            }
             None => None,
         }
     }
 
-    /// Takes the last entry out.
-    pub(crate) fn drop_last(&mut self) -> Option<Held>
-        ensures value { result ≡ slice_get self.old (length self.old - 1) }
-        ensures rest { self.new ≡ take (length self.old - 1) self.old }
+    /// One cell of a line, which is the most recent then.
+    pub(crate) fn read_cell(&mut self, line: u32, i: u8) -> Option<Cell>
+        requires { i < 8 }
+        ensures cell { result ≡ option_map (λ h. cell h.cells i) (entry_of line self.old) }
+        ensures after { self.new ≡ renewed_as (entry_of line self.old) (λ h. h) line self.old }
     {
-        self.entries.pop()
+        match position_of(&self.entries, line) {
+            Some(position) => {
+                self.promote(position);
+                Some(self.entries[0].cells.cell(i))
+            }
+            None => None,
+        }
     }
 
-    /// Puts an entry in front.
-    pub(crate) fn push_front(&mut self, held: Held)
-        requires { length self.old < WAYS }
-        ensures { self.new ≡ held ∷ self.old }
+    /// Sets the cells of a line, which is the most recent then, and dirty. Answers whether it is held.
+    pub(crate) fn put_cells(&mut self, line: u32, cells: &Line) -> bool
+        ensures held { result ≡ is_some (entry_of line self.old) }
+        ensures after { self.new ≡ renewed_as (entry_of line self.old) (λ h. with_cells h cells.now) line self.old }
     {
-        match self.entries.insert(0, held) {
+        match position_of(&self.entries, line) {
+            Some(position) => {
+                self.promote(position);
+                let front = &mut self.entries[0];
+                front.dirty = true;
+                front.cells = *cells;
+                true
+            }
+            None => false,
+        }
+    }
+
+    /// Stores into a cell of a line, which is the most recent then, and dirty. Answers whether it is held.
+    pub(crate) fn store_cell(&mut self, line: u32, i: u8, v: u64, mask: u8) -> bool
+        requires { i < 8 }
+        ensures held { result ≡ is_some (entry_of line self.old) }
+        ensures after { self.new ≡ renewed_as (entry_of line self.old) (stored_into i v mask) line self.old }
+    {
+        match position_of(&self.entries, line) {
+            Some(position) => {
+                self.promote(position);
+                let front = &mut self.entries[0];
+                front.dirty = true;
+                front.cells.set(i, merge(front.cells.cell(i), v, mask));
+                true
+            }
+            None => false,
+        }
+    }
+
+    /// The last entry, where there is no room for another one.
+    pub(crate) fn victim(&self) -> Option<Held>
+        ensures { result ≡ victim_of WAYS self.now }
+    {
+        if self.entries.len() < WAYS {
+            None
+        } else {
+            self.entries.last().copied()
+        }
+    }
+
+    /// Puts an entry in front, in place of the last one where there is no room for both.
+    pub(crate) fn put_first(&mut self, held: &Held)
+        requires { 1 ≤ WAYS }
+        ensures { self.new ≡ held.now ∷ with_room WAYS self.old }
+    {
+        if self.entries.len() >= WAYS {
+            self.entries.pop();
+        }
+        match self.entries.insert(0, *held) {
             Ok(()) => (),
             Err(_) => unreachable!(),
         }

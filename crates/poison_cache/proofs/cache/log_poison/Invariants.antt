@@ -5,4 +5,4 @@ use Rattle.poison_cache.proofs.cache.log_poison.Given as goal
 
 -- the events of the words so far
 abbrev pub invariant-loop-i : goal.invariant-loop-i
-invariant-loop-i g l = l.g ≡ logged_all g.G.EventLog.logged l.initial.g (poison_events l.place l.held.line l.held.cells l.i)
+invariant-loop-i g l = l.g ≡ logged_all g.G.EventLog.logged l.initial.g (poison_events l.log_to l.held.line l.held.cells l.i)

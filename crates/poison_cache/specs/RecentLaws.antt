@@ -3,7 +3,7 @@ use Rattle.std.proofs.Common.{ℕ, ◌-◌, ◌%◌, ◌≡◌, ◌≢◌, ◌�
 use Rattle.std.specs.List.{slice_get}
 use Rattle.std.proofs.lemmas.Bool.Decides.{nat_tests, eqb_tells}
 use Rattle.std.proofs.lemmas.Option.{slice_get_within}
-use Rattle.poison_cache.specs.declared.recent.Held.{Held}
+use Rattle.poison_mem.specs.declared.cache_state.Held.{Held}
 use Rattle.poison_cache.specs.Recent.{entry_of, without}
 use Rattle.poison_cache.specs.Sound.{IsSoundList}
 use Rattle.poison_cache.specs.SoundLaws.{entry_line}
@@ -28,7 +28,7 @@ pub front_other : (k : ℕ) (h : Held) (hs : List Held) → k ≢ h.line → ent
 front_other k h hs other = grind (arith, nat_tests)
 
 module _ (words sets set : ℕ) where
-  -- an entry at a place is the one of its line
+  -- an entry at an index is the one of its line
   pub found_at : (hs : List Held) (i : ℕ) (d : Held) → IsSoundList words sets set hs → slice_get hs i ≡ Some d → entry_of d.line hs ≡ Some d
   found_at [] i d sound at_i = cc
   found_at (h ∷ hs) zero d sound at_i = grind (arith, nat_tests)
