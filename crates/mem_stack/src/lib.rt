@@ -3,7 +3,4 @@
 
 mod stack;
 
-pub use stack::{L1, L2, Stack};
-
-#[cfg(test)]
-mod tests;
+pub use stack::{L1, L1_SETS, L1_WAYS, L2, L2_SETS, L2_WAYS, Stack};

@@ -1,25 +1,40 @@
 //! The stack.
 
 ghost use Rattle.std.specs.Prelude.{◌≡◌, ◌≤◌, ◌%◌, ℕ, replicate, IfOk};
+ghost use Rattle.ras_bits.specs.declared.map.TheConstants.{MOST_WORDS};
 ghost use Rattle.mem_stack.specs.Stack.{loaded_stack};
+ghost use Rattle.mem_stack.specs.StackStands.{StackStands};
 
 use ecc_memory::EccMemory;
 use poison_cache::Cache;
-use poison_mem::{Bus, Cell, CellState, EventLog, FlipBus, FlipMem, LineMem};
+use poison_mem::{Bus, Cell, CellState, EventLog, FlipBus, FlipMem, LineMem, RecordId};
 use ras_bits::NoMemory;
 use std::alloc::Global;
 use std::marker::Model;
 
-/// The second cache: 64 sets of 4 lines over the memory.
-pub type L2 = Cache<EccMemory, 64, 4>;
+/// The sets of the first cache.
+pub const L1_SETS: usize = 16;
 
-/// The first cache: 16 sets of 2 lines over the second.
-pub type L1 = Cache<L2, 16, 2>;
+/// The most lines that a set of the first cache holds.
+pub const L1_WAYS: usize = 2;
+
+/// The sets of the second cache.
+pub const L2_SETS: usize = 64;
+
+/// The most lines that a set of the second cache holds.
+pub const L2_WAYS: usize = 4;
+
+/// The second cache, over the memory.
+pub type L2 = Cache<EccMemory, L2_SETS, L2_WAYS>;
+
+/// The first cache, over the second.
+pub type L1 = Cache<L2, L1_SETS, L1_WAYS>;
 
 /// Two caches over a memory.
 ///
-/// Words are read and stored through the first cache, which logs to bank 1 record 0. The second one logs to bank 1
-/// record 1, the memory to bank 0. Loads, flips and scrubs act on the memory alone and leave the lines of both caches.
+/// Words are read and stored through the first cache, which logs to [`RecordId::L1`]. The second one logs to
+/// [`RecordId::L2`], the memory to the two records of bank 0. Loads, flips, scrubs and cells that are set act on the memory
+/// alone and leave the lines of both caches.
 #[derive(Drop)]
 pub struct Stack {
     l1: L1,
@@ -39,23 +54,26 @@ impl Model for Stack {
 impl Stack {
     /// A stack over this many words, all zero, that holds no line. The one refusal is want of memory.
     ///
-    /// The number of words is a multiple of 8, at least 8 and at most 8,388,608.
+    /// The number of words is a multiple of 8, at least 8 and at most [`ras_bits::MOST_WORDS`].
     pub fn make(alloc: Global, words: u32) -> Result<Stack, NoMemory>
         requires lines { words % 8 ≡ 0 }
         requires some { 8 ≤ words }
-        requires most { words ≤ 8388608 }
-        ensures { IfOk result (λ stack. stack ≡ loaded_stack (replicate words 0)) }
+        requires most { words ≤ MOST_WORDS }
+        ensures empty { IfOk result (λ stack. stack ≡ loaded_stack (replicate words 0)) }
+
+        // It stands for zeros, whatever flips are told of its words.
+        ensures stands { IfOk result (λ stack. (q : ℕ → ℕ) → StackStands stack (λ _. 0) q) }
     {
         let memory = EccMemory::make(alloc, words)?;
-        let l2 = L2::make(alloc, memory, 1, 1)?;
-        let l1 = L1::make(alloc, l2, 1, 0)?;
+        let l2 = L2::make(alloc, memory, RecordId::L2.bank(), RecordId::L2.record())?;
+        let l1 = L1::make(alloc, l2, RecordId::L1.bank(), RecordId::L1.record())?;
         Ok(Stack { l1 })
     }
 }
 
 impl Bus for Stack {
     ghost use Rattle.mem_stack.specs.Stack.{stack_meaning};
-    ghost use Rattle.mem_stack.specs.StackStands.{stack_keeps_words};
+    ghost use Rattle.mem_stack.specs.StackLaws.{stack_keeps_words};
 
     ghost meaning = { stack_meaning };
 
@@ -66,8 +84,7 @@ impl Bus for Stack {
     }
 
     fn read<G: EventLog>(&mut self, w: u32, g: &mut G) -> Cell {
-        let line = self.l1.read_line(w / 8, g);
-        line.cell((w % 8) as u8)
+        self.l1.read_word(w, g)
     }
 
     fn store<G: EventLog>(&mut self, w: u32, v: u64, mask: u8, g: &mut G) {
@@ -76,27 +93,34 @@ impl Bus for Stack {
 }
 
 impl FlipBus for Stack {
-    ghost use Rattle.std.specs.Prelude.{◌<◌, List, slice_set};
+    ghost use Rattle.std.specs.Prelude.{◌<◌, ◌^◌, List, length, slice_index, slice_set};
     ghost use Rattle.mem_stack.specs.Stack.{stack_meaning, stack_flips, loaded_stack};
-    ghost use Rattle.mem_stack.specs.StackStands.{StackStands, stack_flips_keep_words, stack_faithful, stack_counts_flips};
+    ghost use Rattle.mem_stack.specs.StackStands.{StackStands};
+    ghost use Rattle.mem_stack.specs.StackLaws.{stack_cells_keep_counts, stack_words_keep_counts, stack_faithful};
 
     ghost flips = { stack_flips };
 
     ghost stands = { StackStands };
 
-    ghost flips_keep_words = { stack_flips_keep_words };
+    ghost cells_keep_counts = { stack_cells_keep_counts };
+
+    ghost words_keep_counts = { stack_words_keep_counts };
 
     ghost faithful = { stack_faithful };
-
-    ghost counts_flips = { stack_counts_flips };
 
     /// Sets the word `w` of the memory.
     fn load(&mut self, w: u32, v: u64)
         requires { w < stack_meaning.words self.old }
-        ensures after { self.new ≡ stack_flips.load self.old w v }
+        ensures after { self.new ≡ stack_flips.cells.load self.old w v }
+        ensures words { stack_meaning.words self.new ≡ stack_meaning.words self.old }
 
         // A stack that holds no line is loaded with the word.
         ensures loaded { (words : List ℕ) → self.old ≡ loaded_stack words → self.new ≡ loaded_stack (slice_set words w v) }
+
+        // It stands for the words that it was loaded with, whatever flips are told of them.
+        ensures stands { (words : List ℕ) (q : ℕ → ℕ) → self.old ≡ loaded_stack words
+            → ((k : ℕ) → k < length words → slice_index words k < 2 ^ 64)
+            → StackStands self.new (slice_index (slice_set words w v)) q }
     {
         self.l1.load(w, v);
     }
@@ -111,6 +135,10 @@ impl FlipBus for Stack {
 
     fn cell_state(&self, w: u32) -> CellState {
         self.l1.cell_state(w)
+    }
+
+    fn set_cell(&mut self, w: u32, s: &CellState) {
+        self.l1.set_cell(w, s);
     }
 
     fn view(&self, w: u32) -> Cell {
