@@ -30,7 +30,7 @@ mod tests {
     }
 
     #[test]
-    fn the_place_goes_round(rt: HostRuntime) {
+    fn the_words_go_round(rt: HostRuntime) {
         let mut patrol = Patrol::new(1, 3);
         for want in [0, 1, 2, 0, 1] {
             assert_eq!(rt; patrol.place(), want);

@@ -2,7 +2,7 @@
 
 ghost use Rattle.std.specs.Prelude.{◌≡◌, ◌<◌, ◌/◌, ℕ};
 ghost use Rattle.scrubber.specs.PatrolState.{PatrolState};
-ghost use Rattle.scrubber.specs.Patrol.{new_patrol, due_at, moved_on, moved_to, place_after, after_steps};
+ghost use Rattle.scrubber.specs.Patrol.{new_patrol, due_at, moved_on, moved_to, next_after, after_steps};
 
 use std::marker::Model;
 
@@ -11,7 +11,7 @@ use std::marker::Model;
 pub struct Patrol {
     every: u64,
     words: u32,
-    place: u32,
+    next: u32,
 }
 
 impl Model for Patrol {
@@ -20,13 +20,13 @@ impl Model for Patrol {
 
     ghost Value = { PatrolState };
 
-    ghost view = { λ p. record { every = p.every; words = p.words; place = p.place } };
+    ghost view = { λ p. record { every = p.every; words = p.words; next = p.next } };
 
-    ghost invariant = { λ p. p.place < p.words };
+    ghost invariant = { λ p. p.next < p.words };
 }
 
 impl Patrol {
-    /// A patrol over `words` words, due every `every` steps; with 0 it is never due. The place is 0.
+    /// A patrol over `words` words, due every `every` steps; with 0 it is never due. Word 0 is the first.
     ///
     /// There is at least one word.
     pub fn new(every: u64, words: u32) -> Patrol
@@ -36,7 +36,7 @@ impl Patrol {
         Patrol {
             every,
             words,
-            place: 0,
+            next: 0,
         }
     }
 
@@ -45,7 +45,7 @@ impl Patrol {
         ensures { result ≡ due_at self.now n }
     {
         if self.every > 0 && n % self.every == self.every - 1 {
-            Some(self.place)
+            Some(self.next)
         } else {
             None
         }
@@ -55,19 +55,19 @@ impl Patrol {
     pub fn done(&mut self)
         ensures { self.new ≡ moved_on self.old }
     {
-        self.place = if self.place + 1 == self.words {
+        self.next = if self.next + 1 == self.words {
             0
         } else {
-            self.place + 1
+            self.next + 1
         };
     }
 
     /// The word that is scrubbed next.
     pub fn place(&self) -> u32
-        ensures place { result ≡ self.now.place }
+        ensures next { result ≡ self.now.next }
         ensures within { result < self.now.words }
     {
-        self.place
+        self.next
     }
 
     /// Sets the word that is scrubbed next. There is such a word.
@@ -75,13 +75,13 @@ impl Patrol {
         requires { p < self.old.words }
         ensures { self.new ≡ moved_to self.old p }
     {
-        self.place = p;
+        self.next = p;
     }
 }
 
-/// After `n` steps, in each of which a due patrol is done, the place is where it began and one word on for each
-/// whole `every` steps, modulo the words: the words are scrubbed in turn, one every `every` steps.
+/// The words are scrubbed in turn, one every `every` steps: after `n` steps, in each of which a due patrol is done, the
+/// next word is `(first + n / every)` modulo the number of words, where `first` was the next word at the beginning.
 pub fn scrubs_the_words_in_turn()
-    ensures { (p : PatrolState) (n : ℕ) → p.place < p.words → 0 < p.every
-        → (after_steps p n).place ≡ place_after p (n / p.every) }
+    ensures { (p : PatrolState) (n : ℕ) → p.next < p.words → 0 < p.every
+        → (after_steps p n).next ≡ next_after p (n / p.every) }
 {}
