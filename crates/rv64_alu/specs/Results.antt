@@ -14,11 +14,7 @@ use Rattle.rv64_decode.specs.declared.instr.AmoOp.TheVariants as amo
 use Rattle.rv64_decode.specs.declared.instr.BranchOp.{BranchOp}
 use Rattle.rv64_decode.specs.declared.instr.BranchOp.TheVariants as branch
 
--- the number in a register, read as two's complement
-abbrev pub signed : ℕ → ℤ
-signed a = cast_signed w64 a
-
--- the same of its low 32 bits
+-- the low 32 bits of a register, read as two's complement
 abbrev pub signed_32 : ℕ → ℤ
 signed_32 a = cast_signed w32 (a % 2 ^ 32)
 
@@ -31,11 +27,11 @@ abbrev pub alu_result : AluOp → ℕ → ℕ → ℕ
 alu_result alu.Add a b = (a + b) % 2 ^ 64
 alu_result alu.Sub a b = modulo (pos a -ℤ pos b)
 alu_result alu.Sll a b = a * 2 ^ (b % 64) % 2 ^ 64
-alu_result alu.Slt a b = from_bool (int_lt (signed a) (signed b))
+alu_result alu.Slt a b = from_bool (int_lt (cast_signed w64 a) (cast_signed w64 b))
 alu_result alu.Sltu a b = from_bool (nat_lt a b)
 alu_result alu.Xor a b = bit_xor a b
 alu_result alu.Srl a b = a / 2 ^ (b % 64)
-alu_result alu.Sra a b = modulo (int_shr (signed a) (b % 64))
+alu_result alu.Sra a b = modulo (int_shr (cast_signed w64 a) (b % 64))
 alu_result alu.Or a b = bit_or a b
 alu_result alu.And a b = bit_and a b
 
@@ -51,12 +47,12 @@ alu_w_result alu_w.Sraw a b = modulo (int_shr (signed_32 a) (b % 32))
 -- the dividend.
 abbrev pub mul_result : MulOp → ℕ → ℕ → ℕ
 mul_result mul.Mul a b = a * b % 2 ^ 64
-mul_result mul.Mulh a b = modulo (int_shr (signed a *ℤ signed b) 64)
-mul_result mul.Mulhsu a b = modulo (int_shr (signed a *ℤ pos b) 64)
+mul_result mul.Mulh a b = modulo (int_shr (cast_signed w64 a *ℤ cast_signed w64 b) 64)
+mul_result mul.Mulhsu a b = modulo (int_shr (cast_signed w64 a *ℤ pos b) 64)
 mul_result mul.Mulhu a b = a * b / 2 ^ 64
-mul_result mul.Div a b = if b == 0 then 2 ^ 64 - 1 else modulo (int_div (signed a) (signed b))
+mul_result mul.Div a b = if b == 0 then 2 ^ 64 - 1 else modulo (int_div (cast_signed w64 a) (cast_signed w64 b))
 mul_result mul.Divu a b = if b == 0 then 2 ^ 64 - 1 else a / b
-mul_result mul.Rem a b = if b == 0 then a else modulo (int_rem (signed a) (signed b))
+mul_result mul.Rem a b = if b == 0 then a else modulo (int_rem (cast_signed w64 a) (cast_signed w64 b))
 mul_result mul.Remu a b = if b == 0 then a else a % b
 mul_result mul.Mulw a b = sign_extended (a * b) 32
 mul_result mul.Divw a b = if b % 2 ^ 32 == 0 then 2 ^ 64 - 1 else sign_extended (modulo (int_div (signed_32 a) (signed_32 b))) 32
@@ -68,8 +64,8 @@ mul_result mul.Remuw a b = if b % 2 ^ 32 == 0 then sign_extended a 32 else sign_
 abbrev pub branch_taken : BranchOp → ℕ → ℕ → Bool
 branch_taken branch.Beq a b = a == b
 branch_taken branch.Bne a b = not (a == b)
-branch_taken branch.Blt a b = int_lt (signed a) (signed b)
-branch_taken branch.Bge a b = not (int_lt (signed a) (signed b))
+branch_taken branch.Blt a b = int_lt (cast_signed w64 a) (cast_signed w64 b)
+branch_taken branch.Bge a b = not (int_lt (cast_signed w64 a) (cast_signed w64 b))
 branch_taken branch.Bltu a b = nat_lt a b
 branch_taken branch.Bgeu a b = not (nat_lt a b)
 

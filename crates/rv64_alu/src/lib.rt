@@ -12,6 +12,3 @@ pub use atomics::amo;
 pub use conditions::branch;
 pub use products::muldiv;
 pub use registers::{alu, alu_w};
-
-#[cfg(test)]
-mod tests;

@@ -39,6 +39,7 @@ fn high(product: i128) -> u64
 {
     ((product >> 64).cast_unsigned() & 0xFFFF_FFFF_FFFF_FFFF) as u64
 }
+
 /// The quotient of signed numbers.
 fn div(a: u64, b: u64) -> u64
     ensures { result ≡ mul_result Div a b }

@@ -42,5 +42,5 @@ pub fn alu_w(op: AluWOp, a: u64, b: u64) -> u64
 pub fn low(a: u64) -> u64
     ensures { result ≡ a % 2 ^ 32 }
 {
-    a & 0xFFFF_FFFF
+    a % (1 << 32)
 }

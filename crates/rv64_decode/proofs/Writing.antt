@@ -22,10 +22,12 @@ use Rattle.rv64_decode.specs.declared.instr.AmoOp.TheVariants as amo
 use Rattle.rv64_decode.specs.declared.instr.Instr.{Instr}
 use Rattle.rv64_decode.specs.declared.instr.Instr.TheVariants.{Lui, Auipc, Jal, Jalr, Branch, Load, Store, AluImm, AluWImm, Alu, AluW, Mul, Fence, FenceI, Ecall, Ebreak, Sret, Wfi, SfenceVma, Csr, LoadReserved, StoreCond, Amo, Illegal}
 use Rattle.rv64_decode.specs.Fields.{AreFields}
-use Rattle.rv64_decode.specs.Immediates.{signed, unsigned, FitsBits, upper_of_offset, offset_of_upper, imm_i, imm_s, imm_b, imm_u}
+use Rattle.ras_bits.specs.Bits.{signed}
+use Rattle.ras_bits.specs.BitsLaws.{flag_small}
+use Rattle.rv64_decode.specs.Immediates.{unsigned, FitsBits, upper_of_offset, offset_of_upper, imm_i, imm_s, imm_b, imm_u}
 use Rattle.rv64_decode.specs.Table.{op_at, op_at_both, branch_funct3, branch_ops, load_funct3, load_ops, store_funct3, store_ops, csr_funct3, alu_functs, imm_functs, imm_funct3, imm_ops, shift_ops, alu_w_functs, shift_w_ops, mul_functs, mul_opcode, amo_funct5, amo_ops}
-use Rattle.rv64_decode.specs.Rows.{row_of, when, calls, lui_row, auipc_row, jal_row, jalr_row, branch_row, load_row, store_row, alu_imm_row, alu_w_imm_row, alu_row, alu_w_row, fence_row, system_row, atomic_row}
-use Rattle.rv64_decode.specs.Encoding.{r_format, InRange, IsAmount, IsImm, IsImmW, IsOffset, IsRow, fields_for, atomic_format}
+use Rattle.rv64_decode.specs.Decoding.{row_of, when, calls, lui_row, auipc_row, jal_row, jalr_row, branch_row, load_row, store_row, alu_imm_row, alu_w_imm_row, alu_row, alu_w_row, fence_row, system_row, atomic_row}
+use Rattle.rv64_decode.specs.Encoding.{r_format, OperandsInRange, IsAmount, IsImm, IsImmW, IsOffset, IsRow, fields_for, atomic_format}
 use Rattle.rv64_decode.proofs.Numbers.{AreFields_of, signed-unsigned, branch_offset, offset-upper}
 
 -- the read of a number of a table
@@ -386,7 +388,7 @@ sfence_written rs1 rs2 =
 
 -- ---- all of them
 
-pub row_written : (i : Instr) → InRange i → IsRow i → row_of (fields_for i) ≡ Some i
+pub row_written : (i : Instr) → OperandsInRange i → IsRow i → row_of (fields_for i) ≡ Some i
 unfolding row_of lui_row auipc_row fence_row system_row
 row_written (Lui rd imm) h l = ap (λ n. Some (Lui rd n)) (omega arith)
 row_written (Auipc rd imm) h l = ap (λ n. Some (Auipc rd n)) (omega arith)
@@ -416,13 +418,9 @@ row_written (Illegal word) h l = absurd l
 registers : (opcode rd funct3 rs1 rs2 funct7 : ℕ) → opcode < 2 ^ 7 → (rd < 2 ^ 5) × (rs1 < 2 ^ 5) × (rs2 < 2 ^ 5) → funct3 < 2 ^ 3 → funct7 < 2 ^ 7 → AreFields (r_format opcode rd funct3 rs1 rs2 funct7)
 registers opcode rd funct3 rs1 rs2 funct7 a b c d = record { opcode = a; rd = b.0; funct3 = c; rs1 = b.1; rs2 = b.2; funct7 = d }
 
-bit_small : (b : Bool) → from_bool b < 2
-bit_small true = omega arith
-bit_small false = omega arith
-
 atomic_small : (number : ℕ) (wide aq rl : Bool) (rd rs1 rs2 : ℕ) → number < 2 ^ 5 → (rd < 32) × (rs1 < 32) × (rs2 < 32) → AreFields (atomic_format number wide aq rl rd rs1 rs2)
 atomic_small number wide aq rl rd rs1 rs2 p q =
-    let a = bit_small wide in let b = bit_small aq in let c = bit_small rl in
+    let a = flag_small wide in let b = flag_small aq in let c = flag_small rl in
     registers 0x2F rd (2 + from_bool wide) rs1 rs2 (number * 4 + from_bool aq * 2 + from_bool rl) (omega arith) q (omega arith) (omega arith)
 
 imm_bound : (op : AluOp) (imm : ℤ) → IsImm op imm → (imm_functs op).0 * 2 ^ 6 + unsigned 12 imm < 2 ^ 12
@@ -444,7 +442,7 @@ imm_w_bound alu_w.Sllw imm h = let e : unsigned 12 imm ≡ h.0 = ap (unsigned 12
 imm_w_bound alu_w.Srlw imm h = let e : unsigned 12 imm ≡ h.0 = ap (unsigned 12) h.1 in omega (arith, h.2)
 imm_w_bound alu_w.Sraw imm h = let e : unsigned 12 imm ≡ h.0 = ap (unsigned 12) h.1 in omega (arith, h.2)
 
-pub fields_small : (i : Instr) → InRange i → AreFields (fields_for i)
+pub fields_small : (i : Instr) → OperandsInRange i → AreFields (fields_for i)
 fields_small (Lui rd imm) h = registers _ _ _ _ _ _ (omega arith) (omega arith, omega arith, omega arith) (omega arith) (omega arith)
 fields_small (Auipc rd imm) h = registers _ _ _ _ _ _ (omega arith) (omega arith, omega arith, omega arith) (omega arith) (omega arith)
 fields_small (Jal rd off) h = let n : unsigned 21 off < 2 ^ 21 = unsigned_small 21 off refl h.1.0 in registers _ _ _ _ _ _ (omega arith) (omega arith, omega arith, omega arith) (omega arith) (omega arith)

@@ -1,4 +1,5 @@
--- The word of an instruction, and the range of its operands.
+-- The word of an instruction, and the range of its operands (unprivileged manual, "RV32/64G Instruction Set Listings"; privileged
+-- manual for SRET, WFI and SFENCE.VMA).
 use Rattle.std.specs.Prelude.{◌≡◌, ℕ, ℤ, pos, ◌+◌, ◌*◌, ◌/◌, ◌%◌, ◌^◌, ◌<◌, ◌⊎◌, Bool}
 use Rattle.rv64_decode.specs.declared.fields.Fields.{Fields}
 use Rattle.rv64_decode.specs.declared.instr.AluOp.{AluOp}
@@ -8,10 +9,10 @@ use Rattle.rv64_decode.specs.declared.instr.AluWOp.TheVariants as alu_w
 use Rattle.rv64_decode.specs.declared.instr.Instr.{Instr}
 use Rattle.rv64_decode.specs.declared.instr.Instr.TheVariants.{Lui, Auipc, Jal, Jalr, Branch, Load, Store, AluImm, AluWImm, Alu, AluW, Mul, Fence, FenceI, Ecall, Ebreak, Sret, Wfi, SfenceVma, Csr, LoadReserved, StoreCond, Amo, Illegal}
 use Rattle.rv64_decode.specs.Immediates.{unsigned, FitsBits, upper_of_offset}
-use Rattle.rv64_decode.specs.Table.{branch_funct3, load_funct3, store_funct3, csr_funct3, alu_functs, imm_functs, alu_w_functs, mul_functs, mul_opcode, amo_funct5}
+use Rattle.rv64_decode.specs.Table.{branch_funct3, load_funct3, store_funct3, csr_funct3, alu_functs, imm_functs, alu_w_functs, mul_functs, mul_opcode, ecall_funct12, ebreak_funct12, sret_funct12, wfi_funct12, amo_funct5}
 use Rattle.std.specs.Int.{from_bool}
-use Rattle.rv64_decode.specs.Fields.{fields_of, word_of}
-use Rattle.rv64_decode.specs.Rows.{row}
+use Rattle.rv64_decode.specs.Fields.{fields_of, word_of_fields}
+use Rattle.rv64_decode.specs.Decoding.{row}
 
 -- ---- the range of the operands
 
@@ -49,31 +50,31 @@ abbrev pub IsOffset : ℕ → ℤ → Type 0
 IsOffset bits off = FitsBits bits off × (unsigned bits off % 2 ≡ 0)
 
 -- The operands are in the range of their row; of Illegal, no row fits the word.
-abbrev pub InRange : Instr → Type 0
-InRange (Lui rd imm) = (rd < 32) × (imm < 2 ^ 20)
-InRange (Auipc rd imm) = (rd < 32) × (imm < 2 ^ 20)
-InRange (Jal rd off) = (rd < 32) × IsOffset 21 off
-InRange (Jalr rd rs1 imm) = AreRegisters rd rs1 0 × FitsBits 12 imm
-InRange (Branch op rs1 rs2 off) = AreRegisters 0 rs1 rs2 × IsOffset 13 off
-InRange (Load op rd rs1 imm) = AreRegisters rd rs1 0 × FitsBits 12 imm
-InRange (Store op rs1 rs2 imm) = AreRegisters 0 rs1 rs2 × FitsBits 12 imm
-InRange (AluImm op rd rs1 imm) = AreRegisters rd rs1 0 × IsImm op imm
-InRange (AluWImm op rd rs1 imm) = AreRegisters rd rs1 0 × IsImmW op imm
-InRange (Alu op rd rs1 rs2) = AreRegisters rd rs1 rs2
-InRange (AluW op rd rs1 rs2) = AreRegisters rd rs1 rs2
-InRange (Mul op rd rs1 rs2) = AreRegisters rd rs1 rs2
-InRange (Fence rd rs1 imm) = AreRegisters rd rs1 0 × (imm < 2 ^ 12)
-InRange (FenceI rd rs1 imm) = AreRegisters rd rs1 0 × (imm < 2 ^ 12)
-InRange Ecall = Unit {0}
-InRange Ebreak = Unit {0}
-InRange Sret = Unit {0}
-InRange Wfi = Unit {0}
-InRange (SfenceVma rs1 rs2) = AreRegisters 0 rs1 rs2
-InRange (Csr op rd csr src) = AreRegisters rd src 0 × (csr < 2 ^ 12)
-InRange (LoadReserved wide aq rl rd rs1) = AreRegisters rd rs1 0
-InRange (StoreCond wide aq rl rd rs1 rs2) = AreRegisters rd rs1 rs2
-InRange (Amo op wide aq rl rd rs1 rs2) = AreRegisters rd rs1 rs2
-InRange (Illegal word) = (word < 2 ^ 32) × (row word ≡ Illegal word)
+abbrev pub OperandsInRange : Instr → Type 0
+OperandsInRange (Lui rd imm) = (rd < 32) × (imm < 2 ^ 20)
+OperandsInRange (Auipc rd imm) = (rd < 32) × (imm < 2 ^ 20)
+OperandsInRange (Jal rd off) = (rd < 32) × IsOffset 21 off
+OperandsInRange (Jalr rd rs1 imm) = AreRegisters rd rs1 0 × FitsBits 12 imm
+OperandsInRange (Branch op rs1 rs2 off) = AreRegisters 0 rs1 rs2 × IsOffset 13 off
+OperandsInRange (Load op rd rs1 imm) = AreRegisters rd rs1 0 × FitsBits 12 imm
+OperandsInRange (Store op rs1 rs2 imm) = AreRegisters 0 rs1 rs2 × FitsBits 12 imm
+OperandsInRange (AluImm op rd rs1 imm) = AreRegisters rd rs1 0 × IsImm op imm
+OperandsInRange (AluWImm op rd rs1 imm) = AreRegisters rd rs1 0 × IsImmW op imm
+OperandsInRange (Alu op rd rs1 rs2) = AreRegisters rd rs1 rs2
+OperandsInRange (AluW op rd rs1 rs2) = AreRegisters rd rs1 rs2
+OperandsInRange (Mul op rd rs1 rs2) = AreRegisters rd rs1 rs2
+OperandsInRange (Fence rd rs1 imm) = AreRegisters rd rs1 0 × (imm < 2 ^ 12)
+OperandsInRange (FenceI rd rs1 imm) = AreRegisters rd rs1 0 × (imm < 2 ^ 12)
+OperandsInRange Ecall = Unit {0}
+OperandsInRange Ebreak = Unit {0}
+OperandsInRange Sret = Unit {0}
+OperandsInRange Wfi = Unit {0}
+OperandsInRange (SfenceVma rs1 rs2) = AreRegisters 0 rs1 rs2
+OperandsInRange (Csr op rd csr src) = AreRegisters rd src 0 × (csr < 2 ^ 12)
+OperandsInRange (LoadReserved wide aq rl rd rs1) = AreRegisters rd rs1 0
+OperandsInRange (StoreCond wide aq rl rd rs1 rs2) = AreRegisters rd rs1 rs2
+OperandsInRange (Amo op wide aq rl rd rs1 rs2) = AreRegisters rd rs1 rs2
+OperandsInRange (Illegal word) = (word < 2 ^ 32) × (row word ≡ Illegal word)
 
 -- ---- the fields of each format
 
@@ -103,6 +104,13 @@ abbrev pub atomic_format : ℕ → Bool → Bool → Bool → ℕ → ℕ → �
 atomic_format number wide aq rl rd rs1 rs2 =
     r_format 0x2F rd (2 + from_bool wide) rs1 rs2 (number * 4 + from_bool aq * 2 + from_bool rl)
 
+-- an instruction of the A extension
+abbrev pub IsAtomic : Instr → Type 0
+IsAtomic (LoadReserved wide aq rl rd rs1) = Unit {0}
+IsAtomic (StoreCond wide aq rl rd rs1 rs2) = Unit {0}
+IsAtomic (Amo op wide aq rl rd rs1 rs2) = Unit {0}
+IsAtomic i = ⊥
+
 -- the manual's listing: the fixed fields of each row, and where its operands stand
 abbrev pub fields_for : Instr → Fields
 fields_for (Lui rd imm) = u_format 0x37 rd imm
@@ -119,10 +127,10 @@ fields_for (AluW op rd rs1 rs2) = r_format 0x3B rd (alu_w_functs op).1 rs1 rs2 (
 fields_for (Mul op rd rs1 rs2) = r_format (mul_opcode op) rd (mul_functs op).1 rs1 rs2 (mul_functs op).0
 fields_for (Fence rd rs1 imm) = i_format 0x0F rd 0 rs1 imm
 fields_for (FenceI rd rs1 imm) = i_format 0x0F rd 1 rs1 imm
-fields_for Ecall = i_format 0x73 0 0 0 0x000
-fields_for Ebreak = i_format 0x73 0 0 0 0x001
-fields_for Sret = i_format 0x73 0 0 0 0x102
-fields_for Wfi = i_format 0x73 0 0 0 0x105
+fields_for Ecall = i_format 0x73 0 0 0 ecall_funct12
+fields_for Ebreak = i_format 0x73 0 0 0 ebreak_funct12
+fields_for Sret = i_format 0x73 0 0 0 sret_funct12
+fields_for Wfi = i_format 0x73 0 0 0 wfi_funct12
 fields_for (SfenceVma rs1 rs2) = r_format 0x73 0 0 rs1 rs2 0x09
 fields_for (Csr op rd csr src) = i_format 0x73 rd (csr_funct3 op) src csr
 fields_for (LoadReserved wide aq rl rd rs1) = atomic_format 0x02 wide aq rl rd rs1 0
@@ -132,7 +140,7 @@ fields_for (Illegal word) = fields_of word
 
 -- the word of an instruction
 abbrev pub encoding : Instr → ℕ
-encoding i = word_of (fields_for i)
+encoding i = word_of_fields (fields_for i)
 
 -- ---- which row a word fits
 
@@ -142,13 +150,13 @@ IsRow (Illegal word) = ⊥
 IsRow i = Unit {0}
 
 -- the word fits a row with these operands
-pub record Fits (word : ℕ) (i : Instr) : Type 0 where
+pub record FitsRow (word : ℕ) (i : Instr) : Type 0 where
   pub is_row : IsRow i
-  pub operands : InRange i
+  pub operands : OperandsInRange i
   pub word_is : encoding i ≡ word
 
 -- i is the one row that the word fits, or no row fits it and i is Illegal with the word
 abbrev pub IsItsRow : ℕ → Instr → Type 0
 IsItsRow word i =
-    (Fits word i × ((j : Instr) → Fits word j → j ≡ i))
-    ⊎ ((i ≡ Illegal word) × ((j : Instr) → Fits word j → ⊥))
+    (FitsRow word i × ((j : Instr) → FitsRow word j → j ≡ i))
+    ⊎ ((i ≡ Illegal word) × ((j : Instr) → FitsRow word j → ⊥))

@@ -24,6 +24,6 @@ pub record AreFields (f : Fields) : Type 0 where
   pub funct7 : f.funct7 < 2 ^ 7
 
 -- the word that has these fields
-unfoldable pub word_of : Fields → ℕ
-word_of f =
+unfoldable pub word_of_fields : Fields → ℕ
+word_of_fields f =
     f.opcode + f.rd * 2 ^ 7 + f.funct3 * 2 ^ 12 + f.rs1 * 2 ^ 15 + f.rs2 * 2 ^ 20 + f.funct7 * 2 ^ 25

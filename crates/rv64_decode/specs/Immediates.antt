@@ -1,12 +1,8 @@
 -- The immediates of the formats (unprivileged manual, "Immediate Encoding Variants").
-use Rattle.std.specs.Prelude.{ℕ, ℤ, pos, negsuc, ◌+◌, ◌-◌, ◌*◌, ◌/◌, ◌%◌, ◌^◌, ◌<◌, suc, nat_lt, if◌then◌else◌}
+use Rattle.std.specs.Prelude.{ℕ, ℤ, pos, negsuc, ◌+◌, ◌-◌, ◌*◌, ◌/◌, ◌%◌, ◌^◌, ◌<◌, suc}
 use Rattle.rv64_decode.specs.declared.fields.Fields.{Fields}
 
--- n, a number of so many bits, read as two's complement
-abbrev pub signed : ℕ → ℕ → ℤ
-signed bits n = if nat_lt n (2 ^ (bits - 1)) then pos n else negsuc (2 ^ bits - suc n)
-
--- the number of so many bits that is read as z
+-- the number of so many bits that is read as z in two's complement
 abbrev pub unsigned : ℕ → ℤ → ℕ
 unsigned bits (pos n) = n
 unsigned bits (negsuc n) = 2 ^ bits - suc n

@@ -1,5 +1,5 @@
 pub mod Fields
 pub mod Immediates
 pub mod Table
-pub mod Rows
+pub mod Decoding
 pub mod Encoding

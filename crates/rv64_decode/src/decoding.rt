@@ -2,8 +2,8 @@
 
 ghost use Rattle.std.specs.Prelude.{◌≡◌};
 ghost use Rattle.rv64_decode.specs.Fields.{AreFields};
-ghost use Rattle.rv64_decode.specs.Encoding.{InRange, IsItsRow, encoding};
-ghost use Rattle.rv64_decode.specs.Rows.{row, row_of, jal_row, jalr_row, branch_row, load_row, store_row, alu_imm_row, alu_w_imm_row, alu_row, alu_w_row, fence_row, system_row, atomic_row};
+ghost use Rattle.rv64_decode.specs.Encoding.{OperandsInRange, IsItsRow, encoding};
+ghost use Rattle.rv64_decode.specs.Decoding.{row, row_of, jal_row, jalr_row, branch_row, load_row, store_row, alu_imm_row, alu_w_imm_row, alu_row, alu_w_row, fence_row, system_row, atomic_row};
 
 use crate::fields::Fields;
 use crate::immediates::{signed_12, signed_13, signed_21};
@@ -21,13 +21,13 @@ pub fn decode(word: u32) -> Instr
     ensures exact { result ≡ row word }
     // A word fits at most one row, and this is it; Illegal comes exactly where none fits.
     ensures unique { IsItsRow word result }
-    ensures in_range { InRange result }
+    ensures in_range { OperandsInRange result }
     ensures written_back { encoding result ≡ word }
 {
     row_of_word(word)
 }
 
-#[tactic(auto, unfolding(crate::specs::Rows::row, crate::specs::Fields::fields_of))]
+#[tactic(auto, unfolding(crate::specs::Decoding::row, crate::specs::Fields::fields_of))]
 fn row_of_word(word: u32) -> Instr
     ensures { result ≡ row word }
 {
@@ -37,7 +37,7 @@ fn row_of_word(word: u32) -> Instr
     }
 }
 
-#[tactic(auto, unfolding(crate::specs::Rows::row_of, crate::specs::Rows::lui_row, crate::specs::Rows::auipc_row))]
+#[tactic(auto, unfolding(crate::specs::Decoding::row_of, crate::specs::Decoding::lui_row, crate::specs::Decoding::auipc_row))]
 fn instruction(f: Fields) -> Option<Instr>
     requires { AreFields f }
     ensures { result ≡ row_of f }
@@ -67,7 +67,7 @@ fn instruction(f: Fields) -> Option<Instr>
     }
 }
 
-#[tactic(auto, unfolding(crate::specs::Rows::jal_row))]
+#[tactic(auto, unfolding(crate::specs::Decoding::jal_row))]
 fn jump(f: Fields) -> Option<Instr>
     requires { AreFields f }
     ensures { result ≡ jal_row f }
@@ -78,7 +78,7 @@ fn jump(f: Fields) -> Option<Instr>
     })
 }
 
-#[tactic(auto, unfolding(crate::specs::Rows::jalr_row))]
+#[tactic(auto, unfolding(crate::specs::Decoding::jalr_row))]
 fn jump_register(f: Fields) -> Option<Instr>
     requires { AreFields f }
     ensures { result ≡ jalr_row f }
@@ -93,7 +93,7 @@ fn jump_register(f: Fields) -> Option<Instr>
     }
 }
 
-#[tactic(auto, unfolding(crate::specs::Rows::branch_row))]
+#[tactic(auto, unfolding(crate::specs::Decoding::branch_row))]
 fn branch(f: Fields) -> Option<Instr>
     requires { AreFields f }
     ensures { result ≡ branch_row f }
@@ -107,7 +107,7 @@ fn branch(f: Fields) -> Option<Instr>
     })
 }
 
-#[tactic(auto, unfolding(crate::specs::Rows::load_row))]
+#[tactic(auto, unfolding(crate::specs::Decoding::load_row))]
 fn load(f: Fields) -> Option<Instr>
     requires { AreFields f }
     ensures { result ≡ load_row f }
@@ -121,7 +121,7 @@ fn load(f: Fields) -> Option<Instr>
     })
 }
 
-#[tactic(auto, unfolding(crate::specs::Rows::store_row))]
+#[tactic(auto, unfolding(crate::specs::Decoding::store_row))]
 fn store(f: Fields) -> Option<Instr>
     requires { AreFields f }
     ensures { result ≡ store_row f }
@@ -135,7 +135,7 @@ fn store(f: Fields) -> Option<Instr>
     })
 }
 
-#[tactic(auto, unfolding(crate::specs::Rows::alu_imm_row))]
+#[tactic(auto, unfolding(crate::specs::Decoding::alu_imm_row))]
 fn alu_imm(f: Fields) -> Option<Instr>
     requires { AreFields f }
     ensures { result ≡ alu_imm_row f }
@@ -157,7 +157,7 @@ fn alu_imm(f: Fields) -> Option<Instr>
     })
 }
 
-#[tactic(auto, unfolding(crate::specs::Rows::alu_w_imm_row))]
+#[tactic(auto, unfolding(crate::specs::Decoding::alu_w_imm_row))]
 fn alu_w_imm(f: Fields) -> Option<Instr>
     requires { AreFields f }
     ensures { result ≡ alu_w_imm_row f }
@@ -179,7 +179,7 @@ fn alu_w_imm(f: Fields) -> Option<Instr>
     })
 }
 
-#[tactic(auto, unfolding(crate::specs::Rows::alu_row))]
+#[tactic(auto, unfolding(crate::specs::Decoding::alu_row))]
 fn alu(f: Fields) -> Option<Instr>
     requires { AreFields f }
     ensures { result ≡ alu_row f }
@@ -201,7 +201,7 @@ fn alu(f: Fields) -> Option<Instr>
     })
 }
 
-#[tactic(auto, unfolding(crate::specs::Rows::alu_w_row))]
+#[tactic(auto, unfolding(crate::specs::Decoding::alu_w_row))]
 fn alu_w(f: Fields) -> Option<Instr>
     requires { AreFields f }
     ensures { result ≡ alu_w_row f }
@@ -223,7 +223,7 @@ fn alu_w(f: Fields) -> Option<Instr>
     })
 }
 
-#[tactic(auto, unfolding(crate::specs::Rows::fence_row))]
+#[tactic(auto, unfolding(crate::specs::Decoding::fence_row))]
 fn fence(f: Fields) -> Option<Instr>
     requires { AreFields f }
     ensures { result ≡ fence_row f }
@@ -243,7 +243,7 @@ fn fence(f: Fields) -> Option<Instr>
     }
 }
 
-#[tactic(auto, unfolding(crate::specs::Rows::system_row))]
+#[tactic(auto, unfolding(crate::specs::Decoding::system_row))]
 fn system(f: Fields) -> Option<Instr>
     requires { AreFields f }
     ensures { result ≡ system_row f }
@@ -274,7 +274,7 @@ fn system(f: Fields) -> Option<Instr>
     })
 }
 
-#[tactic(auto, unfolding(crate::specs::Rows::atomic_row))]
+#[tactic(auto, unfolding(crate::specs::Decoding::atomic_row))]
 fn atomic(f: Fields) -> Option<Instr>
     requires { AreFields f }
     ensures { result ≡ atomic_row f }

@@ -2,8 +2,8 @@
 
 ghost use Rattle.std.specs.Prelude.{◌≡◌, ℕ, ◌<◌, ◌^◌};
 ghost use Rattle.rv64_decode.specs.Fields.{AreFields};
-ghost use Rattle.rv64_decode.specs.Rows.{row};
-ghost use Rattle.rv64_decode.specs.Encoding.{InRange, encoding, r_format, i_format, s_format, b_format, u_format, atomic_format, fields_for};
+ghost use Rattle.rv64_decode.specs.Decoding.{row};
+ghost use Rattle.rv64_decode.specs.Encoding.{OperandsInRange, IsAtomic, encoding, r_format, i_format, s_format, b_format, u_format, atomic_format, fields_for};
 
 use crate::fields::Fields;
 use crate::immediates::{bits_12, bits_13, bits_21, upper_from_offset};
@@ -16,7 +16,7 @@ use crate::table::{
 
 /// The word of an instruction. Its operands are in the range of their row; of `Illegal(word)`, no row fits the word.
 pub fn encode(i: &Instr) -> u32
-    requires { InRange i.now }
+    requires { OperandsInRange i.now }
     ensures exact { result ≡ encoding i.now }
     // The word is read as this instruction, and no other word is.
     ensures decodes { row result ≡ i.now }
@@ -27,7 +27,7 @@ pub fn encode(i: &Instr) -> u32
 
 #[tactic(auto, using(crate::proofs::Writing::fields_small))]
 fn fields(i: &Instr) -> Fields
-    requires { InRange i.now }
+    requires { OperandsInRange i.now }
     ensures value { result ≡ fields_for i.now }
     ensures small { AreFields result }
 {
@@ -61,15 +61,20 @@ fn fields(i: &Instr) -> Fields
         Instr::Ebreak => immediate(SYSTEM, 0, 0, 0, EBREAK),
         Instr::Sret => immediate(SYSTEM, 0, 0, 0, SRET),
         Instr::Wfi => immediate(SYSTEM, 0, 0, 0, WFI),
-        Instr::SfenceVma { rs1, rs2 } => Fields {
-            opcode: SYSTEM,
-            rd: 0,
-            funct3: 0,
-            rs1,
-            rs2,
-            funct7: SFENCE_VMA,
-        },
+        Instr::SfenceVma { rs1, rs2 } => registers(SYSTEM, (SFENCE_VMA, 0), 0, rs1, rs2),
         Instr::Csr { op, rd, csr, src } => immediate(SYSTEM, rd, csr_key(op), src, csr),
+        Instr::LoadReserved { .. } | Instr::StoreCond { .. } | Instr::Amo { .. } => {
+            atomic_fields(i)
+        }
+        Instr::Illegal(word) => Fields::of(word),
+    }
+}
+
+fn atomic_fields(i: &Instr) -> Fields
+    requires { IsAtomic i.now }
+    ensures { result ≡ fields_for i.now }
+{
+    match *i {
         Instr::LoadReserved {
             wide,
             aq,
@@ -94,7 +99,7 @@ fn fields(i: &Instr) -> Fields
             rs1,
             rs2,
         } => atomic(amo_key(op), wide, aq, rl, rd, rs1, rs2),
-        Instr::Illegal(word) => Fields::of(word),
+        _ => unreachable!(),
     }
 }
 
@@ -132,11 +137,11 @@ fn branch(funct3: u8, rs1: u8, rs2: u8, off: u16) -> Fields
 {
     Fields {
         opcode: BRANCH,
-        rd: (off / 2 % 16 * 2 + off / 0x800 % 2) as u8,
+        rd: ((off >> 1) % 16 * 2 + (off >> 11) % 2) as u8,
         funct3,
         rs1,
         rs2,
-        funct7: (off / 0x1000 * 64 + off / 32 % 64) as u8,
+        funct7: ((off >> 12) * 64 + (off >> 5) % 64) as u8,
     }
 }
 
@@ -148,9 +153,9 @@ fn upper(opcode: u8, rd: u8, imm: u32) -> Fields
         opcode,
         rd,
         funct3: (imm % 8) as u8,
-        rs1: (imm / 8 % 32) as u8,
-        rs2: (imm / 0x100 % 32) as u8,
-        funct7: (imm / 0x2000) as u8,
+        rs1: ((imm >> 3) % 32) as u8,
+        rs2: ((imm >> 8) % 32) as u8,
+        funct7: (imm >> 13) as u8,
     }
 }
 

@@ -1,7 +1,7 @@
 //! A word as its base fields (unprivileged manual, "Base Instruction Formats").
 
 ghost use Rattle.std.specs.Prelude.{◌≡◌};
-ghost use Rattle.rv64_decode.specs.Fields.{fields_of, word_of, AreFields};
+ghost use Rattle.rv64_decode.specs.Fields.{fields_of, word_of_fields, AreFields};
 
 /// The six fields of a word, the lowest first.
 #[derive(Clone, Copy)]
@@ -31,10 +31,10 @@ impl Fields {
     }
 
     /// The word that has these fields. Each fits its bits.
-    #[tactic(auto, unfolding(crate::specs::Fields::word_of))]
+    #[tactic(auto, unfolding(crate::specs::Fields::word_of_fields))]
     pub fn word(self) -> u32
         requires { AreFields self }
-        ensures { result ≡ word_of self }
+        ensures { result ≡ word_of_fields self }
     {
         self.opcode as u32
             + ((self.rd as u32) << 7)

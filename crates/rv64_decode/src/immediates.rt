@@ -2,7 +2,8 @@
 
 ghost use Rattle.std.specs.Prelude.{◌≡◌, ◌<◌, ◌^◌};
 ghost use Rattle.rv64_decode.specs.Fields.{AreFields};
-ghost use Rattle.rv64_decode.specs.Immediates.{signed, unsigned, FitsBits, imm_i, imm_s, imm_b, imm_u, imm_j, offset_of_upper, upper_of_offset};
+ghost use Rattle.ras_bits.specs.Bits.{signed};
+ghost use Rattle.rv64_decode.specs.Immediates.{unsigned, FitsBits, imm_i, imm_s, imm_b, imm_u, imm_j, offset_of_upper, upper_of_offset};
 
 use crate::fields::Fields;
 
@@ -11,10 +12,10 @@ pub fn signed_12(n: u16) -> i16
     requires { n < 2 ^ 12 }
     ensures { result ≡ signed 12 n }
 {
-    if n < 0x800 {
+    if n < 1 << 11 {
         n as i16
     } else {
-        n as i16 - 0x1000
+        n as i16 - (1 << 12)
     }
 }
 
@@ -23,10 +24,10 @@ pub fn signed_13(n: u16) -> i16
     requires { n < 2 ^ 13 }
     ensures { result ≡ signed 13 n }
 {
-    if n < 0x1000 {
+    if n < 1 << 12 {
         n as i16
     } else {
-        n as i16 - 0x2000
+        n as i16 - (1 << 13)
     }
 }
 
@@ -35,10 +36,10 @@ pub fn signed_21(n: u32) -> i32
     requires { n < 2 ^ 21 }
     ensures { result ≡ signed 21 n }
 {
-    if n < 0x10_0000 {
+    if n < 1 << 20 {
         n as i32
     } else {
-        n as i32 - 0x20_0000
+        n as i32 - (1 << 21)
     }
 }
 
@@ -48,7 +49,11 @@ pub fn bits_12(z: i16) -> u16
     ensures value { result ≡ unsigned 12 z }
     ensures small { result < 2 ^ 12 }
 {
-    if z < 0 { (z + 0x1000) as u16 } else { z as u16 }
+    if z < 0 {
+        (z + (1 << 12)) as u16
+    } else {
+        z as u16
+    }
 }
 
 /// The number of 13 bits that is read as `z`.
@@ -57,7 +62,11 @@ pub fn bits_13(z: i16) -> u16
     ensures value { result ≡ unsigned 13 z }
     ensures small { result < 2 ^ 13 }
 {
-    if z < 0 { (z + 0x2000) as u16 } else { z as u16 }
+    if z < 0 {
+        (z + (1 << 13)) as u16
+    } else {
+        z as u16
+    }
 }
 
 /// The number of 21 bits that is read as `z`.
@@ -67,7 +76,7 @@ pub fn bits_21(z: i32) -> u32
     ensures small { result < 2 ^ 21 }
 {
     if z < 0 {
-        (z + 0x20_0000) as u32
+        (z + (1 << 21)) as u32
     } else {
         z as u32
     }
@@ -131,10 +140,10 @@ fn offset_from_upper(upper: u32) -> u32
     ensures value { result ≡ offset_of_upper upper }
     ensures small { result < 2 ^ 21 }
 {
-    ((upper / 0x8_0000) << 20)
-        + ((upper % 0x100) << 12)
-        + ((upper / 0x100 % 2) << 11)
-        + ((upper / 0x200 % 0x400) << 1)
+    ((upper >> 19) << 20)
+        + ((upper & 0xFF) << 12)
+        + (((upper >> 8) & 1) << 11)
+        + (((upper >> 9) & 0x3FF) << 1)
 }
 
 /// The 20 bits in which JAL's offset stands.
@@ -143,8 +152,8 @@ pub fn upper_from_offset(offset: u32) -> u32
     ensures value { result ≡ upper_of_offset offset }
     ensures small { result < 2 ^ 20 }
 {
-    ((offset / 0x10_0000) << 19)
-        + ((offset / 2 % 0x400) << 9)
-        + ((offset / 0x800 % 2) << 8)
-        + (offset / 0x1000 % 0x100)
+    ((offset >> 20) << 19)
+        + (((offset >> 1) & 0x3FF) << 9)
+        + (((offset >> 11) & 1) << 8)
+        + ((offset >> 12) & 0xFF)
 }

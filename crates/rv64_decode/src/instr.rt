@@ -76,7 +76,8 @@ pub enum StoreOp {
     Sd,
 }
 
-/// An access to a control and status register: read and write, set or clear; the names that end in `i` take an immediate.
+/// An access to a control and status register: read and write, set or clear; the names that end in `i` take an
+/// immediate.
 #[derive(Clone, Copy, Debug, PartialEq, Eq)]
 pub enum CsrOp {
     Rw,
@@ -208,7 +209,8 @@ pub enum Instr {
         rs1: u8,
         rs2: u8,
     },
-    /// `csr` is the register's number, below 4096. `src` is below 32: a register, or the immediate of `Rwi`, `Rsi` and `Rci`.
+    /// `csr` is the register's number, below 4096. `src` is below 32: a register, or the immediate of `Rwi`, `Rsi` and
+    /// `Rci`.
     Csr {
         op: CsrOp,
         rd: u8,

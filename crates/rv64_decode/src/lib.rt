@@ -13,6 +13,3 @@ mod table;
 pub use decoding::decode;
 pub use encoding::encode;
 pub use instr::{AluOp, AluWOp, AmoOp, BranchOp, CsrOp, Instr, LoadOp, MulOp, StoreOp};
-
-#[cfg(test)]
-mod tests;

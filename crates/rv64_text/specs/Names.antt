@@ -28,8 +28,8 @@ register_names =
     ∷ codes "s8" ∷ codes "s9" ∷ codes "s10" ∷ codes "s11" ∷ codes "t3" ∷ codes "t4" ∷ codes "t5" ∷ codes "t6" ∷ []
 
 -- the name of a register
-abbrev pub register : ℕ → List ℕ
-register n = slice_index_or register_names n []
+abbrev pub register_name : ℕ → List ℕ
+register_name n = slice_index_or register_names n []
 
 -- the name of a branch
 abbrev pub branch_name : BranchOp → List ℕ
@@ -136,11 +136,12 @@ amo_name amo.Max = codes "amomax"
 amo_name amo.Minu = codes "amominu"
 amo_name amo.Maxu = codes "amomaxu"
 
--- the ending of an atomic instruction: its width, and its ordering bits aq and rl
+-- the ending of an atomic instruction for its width
 abbrev pub width : Bool → List ℕ
 width false = codes ".w"
 width true = codes ".d"
 
+-- the ending for its ordering bits aq and rl
 abbrev pub ordering : Bool → Bool → List ℕ
 ordering false false = []
 ordering true false = codes ".aq"

@@ -1,4 +1,5 @@
--- The operands of an instruction's text.
+-- The operands of an instruction's text (this project's text, after the unprivileged manual, "RV32/64G Instruction Set
+-- Listings").
 use Rattle.std.specs.Prelude.{ℕ, ℤ, pos, ◌+ℤ◌, ◌^◌, ◌<◌, nat_lt, unsigned_abs, if◌then◌else◌, List, [], ◌∷◌, ◌++◌, codes, decimal}
 use Rattle.std.specs.Fmt.{signed_decimal}
 use Rattle.std.specs.Int.{int_rem_euclid}
@@ -9,23 +10,23 @@ use Rattle.rv64_decode.specs.declared.instr.Instr.{Instr}
 use Rattle.rv64_decode.specs.declared.instr.Instr.TheVariants.{Lui, Auipc, Jal, Jalr, Branch, Load, Store, AluImm, AluWImm, Alu, AluW, Mul, Fence, FenceI, Ecall, Ebreak, Sret, Wfi, SfenceVma, Csr, LoadReserved, StoreCond, Amo, Illegal}
 use Rattle.rv64_text.specs.declared.operands.Operand.{Operand}
 use Rattle.rv64_text.specs.declared.operands.Operand.TheVariants.{Register, Immediate, Offset, Base, Upper, CsrNumber, CsrImmediate, Address, Word}
-use Rattle.rv64_text.specs.Names.{register}
+use Rattle.rv64_text.specs.Names.{register_name}
 
 -- as many hexadecimal digits as a number below 2 ^ 20 needs
 abbrev pub digits_needed : ℕ → ℕ
 digits_needed n =
-    if nat_lt n 0x10 then 1
-    else if nat_lt n 0x100 then 2
-    else if nat_lt n 0x1000 then 3
-    else if nat_lt n 0x10000 then 4
+    if nat_lt n (16 ^ 1) then 1
+    else if nat_lt n (16 ^ 2) then 2
+    else if nat_lt n (16 ^ 3) then 3
+    else if nat_lt n (16 ^ 4) then 4
     else 5
 
 -- the text of an operand
 abbrev pub operand_text : Operand → List ℕ
-operand_text (Register n) = register n
+operand_text (Register n) = register_name n
 operand_text (Immediate imm) = signed_decimal imm
-operand_text (Offset imm base) = signed_decimal imm ++ codes "(" ++ register base ++ codes ")"
-operand_text (Base base) = codes "(" ++ register base ++ codes ")"
+operand_text (Offset imm base) = signed_decimal imm ++ codes "(" ++ register_name base ++ codes ")"
+operand_text (Base base) = codes "(" ++ register_name base ++ codes ")"
 operand_text (Upper imm) = codes "0x" ++ hex_text (digits_needed imm) imm
 operand_text (CsrNumber n) = codes "0x" ++ hex_text 3 n
 operand_text (CsrImmediate n) = decimal n

@@ -1,4 +1,5 @@
--- The text of an instruction: its name, and after one space its operands, joined by commas.
+-- The text of an instruction: its name, and after one space its operands, joined by commas (this project's text, as assemblers
+-- write it).
 use Rattle.std.specs.Prelude.{ℕ, List, [], ◌∷◌, ◌++◌, codes}
 use Rattle.rv64_decode.specs.declared.instr.Instr.{Instr}
 use Rattle.rv64_text.specs.declared.operands.Operand.{Operand}

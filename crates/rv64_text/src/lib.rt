@@ -3,11 +3,8 @@
 //! No call of this crate takes memory.
 #![tactic(auto)]
 
-mod instruction;
 mod names;
 mod operands;
+mod text;
 
-pub use instruction::write_text;
-
-#[cfg(test)]
-mod tests;
+pub use text::write_text;

@@ -2,14 +2,14 @@
 //! listings).
 
 ghost use Rattle.std.specs.Prelude.{◌≡◌, ◌<◌, ◌≤◌, length};
-ghost use Rattle.rv64_text.specs.Names.{register, branch_name, load_name, store_name, imm_name, imm_w_name, alu_name, alu_w_name, mul_name, csr_name, amo_name, width, ordering};
+ghost use Rattle.rv64_text.specs.Names.{register_name, branch_name, load_name, store_name, imm_name, imm_w_name, alu_name, alu_w_name, mul_name, csr_name, amo_name, width, ordering};
 
 use rv64_decode::{AluOp, AluWOp, AmoOp, BranchOp, CsrOp, LoadOp, MulOp, StoreOp};
 
 /// The name of a register in the calling convention.
-pub fn register(n: u8) -> &'static str
+pub fn register_name(n: u8) -> &'static str
     requires { n < 32 }
-    ensures name { result.now ≡ register n }
+    ensures name { result.now ≡ register_name n }
     ensures short { length result.now ≤ 4 }
 {
     match n {

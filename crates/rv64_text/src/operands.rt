@@ -3,10 +3,10 @@
 ghost use Rattle.std.specs.Prelude.{◌≡◌, ◌≤◌, ◌<◌, ◌+◌, ◌^◌, ◌++◌, length, codes};
 ghost use Rattle.std.specs.Fmt.{signed_decimal};
 ghost use Rattle.ras_numbers.specs.Numbers.{hex_text};
-ghost use Rattle.rv64_text.specs.Names.{register};
+ghost use Rattle.rv64_text.specs.Names.{register_name};
 ghost use Rattle.rv64_text.specs.Operands.{IsOperand, digits_needed, operand_text};
 
-use crate::names::register;
+use crate::names::register_name;
 use arrayvec::ArrayVec;
 use itoa::Buffer;
 use ras_numbers::{address, hex_digits};
@@ -53,7 +53,7 @@ pub fn put_operand(out: &mut ArrayVec<u8, 64>, operand: Operand)
     ensures short { length out.new.items ≤ length out.old.items + 18 }
 {
     match operand {
-        Operand::Register(n) => put(out, register(n).as_bytes()),
+        Operand::Register(n) => put(out, register_name(n).as_bytes()),
         Operand::Immediate(imm) => put_decimal(out, imm),
         Operand::Offset(imm, base) => {
             put_decimal(out, imm);
@@ -82,11 +82,11 @@ fn put_decimal(out: &mut ArrayVec<u8, 64>, n: i16)
 fn put_base(out: &mut ArrayVec<u8, 64>, base: u8)
     requires known { base < 32 }
     requires room { length out.old.items + 6 ≤ 64 }
-    ensures text { out.new.items ≡ out.old.items ++ (codes "(" ++ register base ++ codes ")") }
+    ensures text { out.new.items ≡ out.old.items ++ (codes "(" ++ register_name base ++ codes ")") }
     ensures short { length out.new.items ≤ length out.old.items + 6 }
 {
     put(out, b"(");
-    put(out, register(base).as_bytes());
+    put(out, register_name(base).as_bytes());
     put(out, b")");
 }
 
@@ -108,13 +108,13 @@ fn put_upper(out: &mut ArrayVec<u8, 64>, n: u32)
     ensures short { length out.new.items ≤ length out.old.items + 7 }
 {
     let digits = u64::from(n);
-    if n < 0x10 {
+    if n < 1 << 4 {
         put_hex::<1>(out, digits);
-    } else if n < 0x100 {
+    } else if n < 1 << 8 {
         put_hex::<2>(out, digits);
-    } else if n < 0x1000 {
+    } else if n < 1 << 12 {
         put_hex::<3>(out, digits);
-    } else if n < 0x1_0000 {
+    } else if n < 1 << 16 {
         put_hex::<4>(out, digits);
     } else {
         put_hex::<5>(out, digits);

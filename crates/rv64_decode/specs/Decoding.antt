@@ -1,4 +1,5 @@
--- The instruction of a word: the row of the manual's listings that the word fits, with its operands.
+-- The instruction of a word: the row of the manual's listings that the word fits, with its operands (unprivileged manual,
+-- "RV32/64G Instruction Set Listings"; privileged manual for SRET, WFI and SFENCE.VMA).
 use Rattle.std.specs.Prelude.{ℕ, pos, ◌/◌, ◌%◌, ◌^◌, ◌==◌, ◌&&◌, Bool, List, [], ◌∷◌, Option, Some, None, option_map, option_and_then, if◌then◌else◌}
 use Rattle.std.specs.Option.{option_or, unwrap_or}
 use Rattle.std.specs.Map.{lookup}
@@ -7,8 +8,9 @@ use Rattle.rv64_decode.specs.declared.instr.Instr.{Instr}
 use Rattle.rv64_decode.specs.declared.instr.Instr.TheVariants.{Lui, Auipc, Jal, Jalr, Branch, Load, Store, AluImm, AluWImm, Alu, AluW, Mul, Fence, FenceI, Ecall, Ebreak, Sret, Wfi, SfenceVma, Csr, LoadReserved, StoreCond, Amo, Illegal}
 use Rattle.rv64_decode.specs.declared.instr.AluWOp.TheVariants.{Addw}
 use Rattle.rv64_decode.specs.Fields.{fields_of}
-use Rattle.rv64_decode.specs.Immediates.{signed, imm_i, imm_s, imm_b, imm_u, imm_j}
-use Rattle.rv64_decode.specs.Table.{op_at, op_at_both, branch_funct3, branch_ops, load_funct3, load_ops, store_funct3, store_ops, csr_funct3, csr_ops, alu_functs, alu_ops, imm_functs, imm_funct3, imm_ops, shift_ops, alu_w_functs, alu_w_ops, shift_w_ops, mul_functs, mul_ops, mul_w_ops, amo_funct5, amo_ops}
+use Rattle.ras_bits.specs.Bits.{signed}
+use Rattle.rv64_decode.specs.Immediates.{imm_i, imm_s, imm_b, imm_u, imm_j}
+use Rattle.rv64_decode.specs.Table.{op_at, op_at_both, branch_funct3, branch_ops, load_funct3, load_ops, store_funct3, store_ops, csr_funct3, csr_ops, alu_functs, alu_ops, imm_functs, imm_funct3, imm_ops, shift_ops, alu_w_functs, alu_w_ops, shift_w_ops, mul_functs, mul_ops, mul_w_ops, ecall_funct12, ebreak_funct12, sret_funct12, wfi_funct12, amo_funct5, amo_ops}
 
 -- this answer, where the test holds
 abbrev pub when : {X : Type 0} → Bool → Option X → Option X
@@ -42,15 +44,14 @@ load_row f = option_map (λ op. Load op f.rd f.rs1 (signed 12 (imm_i f))) (op_at
 unfoldable pub store_row : Fields → Option Instr
 store_row f = option_map (λ op. Store op f.rs1 f.rs2 (signed 12 (imm_s f))) (op_at store_funct3 store_ops f.funct3)
 
--- opcode 0x13
--- A shift amount of six bits takes the lowest bit of funct7, so bits 31:26 tell the shift.
+-- opcode 0x13: a shift amount of six bits takes the lowest bit of funct7, so bits 31:26 tell the shift
 unfoldable pub alu_imm_row : Fields → Option Instr
 alu_imm_row f =
     option_or
     (option_map (λ op. AluImm op f.rd f.rs1 (signed 12 (imm_i f))) (op_at imm_funct3 imm_ops f.funct3))
     (option_map (λ op. AluImm op f.rd f.rs1 (pos (imm_i f % 2 ^ 6))) (op_at_both imm_functs shift_ops (f.funct7 / 2) f.funct3))
 
--- opcode 0x1B: a shift amount of five bits stands in the place of rs2
+-- opcode 0x1B: a shift amount of five bits stands in the bits of rs2
 unfoldable pub alu_w_imm_row : Fields → Option Instr
 alu_w_imm_row f =
     option_or
@@ -80,7 +81,7 @@ fence_row f =
 
 -- the whole words, by bits 31:20, where all other fields are 0
 abbrev pub calls : List (ℕ × Instr)
-calls = (0x000, Ecall) ∷ (0x001, Ebreak) ∷ (0x102, Sret) ∷ (0x105, Wfi) ∷ []
+calls = (ecall_funct12, Ecall) ∷ (ebreak_funct12, Ebreak) ∷ (sret_funct12, Sret) ∷ (wfi_funct12, Wfi) ∷ []
 
 -- opcode 0x73
 unfoldable pub system_row : Fields → Option Instr

@@ -1,7 +1,7 @@
 //! The text of an instruction.
 
 ghost use Rattle.std.specs.Prelude.{◌≡◌, ◌≤◌, ◌<◌, ◌+◌, ◌++◌, [], ◌∷◌, length};
-ghost use Rattle.rv64_decode.specs.Encoding.{InRange};
+ghost use Rattle.rv64_decode.specs.Encoding.{OperandsInRange};
 ghost use Rattle.rv64_text.specs.declared.operands.Operand.TheVariants.{Immediate, Register};
 ghost use Rattle.rv64_text.specs.Names.{mnemonic, width, ordering};
 ghost use Rattle.rv64_text.specs.Operands.{IsOperand, csr_source, operands, target};
@@ -9,7 +9,7 @@ ghost use Rattle.rv64_text.specs.Text.{operands_text, text_of};
 
 use crate::names::{
     alu_name, alu_w_name, amo_name, branch_name, csr_name, imm_name, imm_w_name, load_name,
-    mul_name, ordering, register, store_name, width,
+    mul_name, ordering, register_name, store_name, width,
 };
 use crate::operands::{Operand, put, put_operand};
 use arrayvec::ArrayVec;
@@ -21,7 +21,7 @@ use rv64_decode::{CsrOp, Instr};
 /// The text is the instruction's name in lower case, one space, and the operands joined by commas. Registers have
 /// the names of the calling convention; jumps and branches show the address they go to.
 pub fn write_text(i: &Instr, pc: u64, out: &mut ArrayVec<u8, 64>)
-    requires { InRange i.now }
+    requires { OperandsInRange i.now }
     ensures text { out.new.items ≡ text_of i.now pc }
     ensures fits { length out.new.items ≤ 64 }
 {
@@ -84,7 +84,7 @@ fn put_atomic(out: &mut ArrayVec<u8, 64>, name: &str, wide: bool, aq: bool, rl: 
 
 /// Appends the operands of an instruction, at most 50 bytes of them.
 fn put_operands(out: &mut ArrayVec<u8, 64>, i: &Instr, pc: u64)
-    requires known { InRange i.now }
+    requires known { OperandsInRange i.now }
     requires room { length out.old.items ≤ 14 }
     ensures text { out.new.items ≡ out.old.items ++ operands_text (operands i.now pc) }
     ensures fits { length out.new.items ≤ 64 }
@@ -181,7 +181,7 @@ fn two(out: &mut ArrayVec<u8, 64>, first: u8, second: Operand)
     ensures fits { length out.new.items ≤ 64 }
 {
     put(out, b" ");
-    put(out, register(first).as_bytes());
+    put(out, register_name(first).as_bytes());
     put(out, b",");
     put_operand(out, second);
 }
@@ -194,7 +194,7 @@ fn three(out: &mut ArrayVec<u8, 64>, first: u8, second: Operand, third: Operand)
     ensures fits { length out.new.items ≤ 64 }
 {
     put(out, b" ");
-    put(out, register(first).as_bytes());
+    put(out, register_name(first).as_bytes());
     put(out, b",");
     put_operand(out, second);
     put(out, b",");
