@@ -1,4 +1,4 @@
--- The interrupts of S mode.
+-- The interrupts of S mode (privileged manual, "Supervisor Interrupt Registers" and "Supervisor Cause Register").
 use Rattle.std.specs.Prelude.{ℕ, ◌+◌, ◌^◌, List, [], ◌∷◌}
 use Rattle.rv64_csr.specs.declared.interrupt.Interrupt.{Interrupt}
 use Rattle.rv64_csr.specs.declared.interrupt.Interrupt.TheVariants.{External, Software, Timer}

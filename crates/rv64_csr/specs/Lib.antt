@@ -1,6 +1,5 @@
-pub mod Bits
 pub mod Table
 pub mod Status
 pub mod Interrupt
-pub mod File
+pub mod Csrs
 pub mod Parts

@@ -1,21 +1,21 @@
 //! The register file.
 
 ghost use Rattle.std.specs.Prelude.{◌≡◌, ◌+◌, ◌/◌, ◌%◌, ◌^◌, ◌⊎◌};
-ghost use Rattle.rv64_csr.specs.File.{CsrFile, reset, sip_of, value_of, stored, has_known_mode, read_of, write_of, trap_vector, entered, returned, pending_of, is_waiting};
-ghost use Rattle.rv64_csr.specs.Table.{IsKept};
+ghost use Rattle.rv64_csr.specs.Csrs.{CsrFile, reset_file, sip_of, register_value, register_written, has_known_mode, read_of, write_of, trap_vector, entered, returned, pending_of, is_waiting};
+ghost use Rattle.rv64_csr.specs.Table.{HasWritableBitsAlone};
 ghost use Rattle.rv64_csr.specs.Parts.{parts_of, file_from, is_held};
 
 use crate::interrupt::Interrupt;
 use crate::parts::CsrParts;
-use crate::status::{Status, has_bit};
+use crate::status::SupervisorStatus;
 use crate::table::Register;
-use ras_bits::Mode;
+use ras_bits::{Mode, has_bit};
 use std::marker::Model;
 
 /// The supervisor's registers, the timer, and the number of retired instructions.
 #[derive(Drop)]
 pub struct Csrs {
-    status: Status,
+    status: SupervisorStatus,
     sie: u64,
     stvec: u64,
     scounteren: u64,
@@ -30,22 +30,22 @@ pub struct Csrs {
 }
 
 impl Model for Csrs {
-    ghost use Rattle.rv64_csr.specs.File.{CsrFile, IsHeld};
+    ghost use Rattle.rv64_csr.specs.Csrs.{CsrFile, IsFileHeld};
 
     ghost Value = { CsrFile };
 
     ghost view = { λ a. record { status = a.status; sie = a.sie; stvec = a.stvec; scounteren = a.scounteren; sscratch = a.sscratch; sepc = a.sepc; scause = a.scause; stval = a.stval; ssip = a.ssip; satp = a.satp; timer = a.timer; retired = a.retired } };
 
-    ghost invariant = { λ a. IsHeld a.sie a.stvec a.scounteren a.sepc a.satp };
+    ghost invariant = { λ a. IsFileHeld a.sie a.stvec a.scounteren a.sepc a.satp };
 }
 
 impl Csrs {
     /// The registers of a new hart: all zero but for UXL, and the timer at the greatest number.
     pub fn new() -> Csrs
-        ensures { result ≡ reset }
+        ensures { result ≡ reset_file }
     {
         Csrs {
-            status: Status {
+            status: SupervisorStatus {
                 sie: false,
                 spie: false,
                 spp: Mode::User,
@@ -77,7 +77,7 @@ impl Csrs {
             None => None,
             Some(register) => {
                 if register.row().permission.is_open_to(mode, self.scounteren) {
-                    Some(self.value_of(now, register))
+                    Some(self.register_value(now, register))
                 } else {
                     None
                 }
@@ -86,8 +86,8 @@ impl Csrs {
     }
 
     /// What a register reads in step `now`.
-    fn value_of(&self, now: u64, register: Register) -> u64
-        ensures { result ≡ value_of self.now now register }
+    fn register_value(&self, now: u64, register: Register) -> u64
+        ensures { result ≡ register_value self.now now register }
     {
         match register {
             Register::Sstatus => self.status.number(),
@@ -139,11 +139,11 @@ impl Csrs {
 
     /// Puts writable bits into a register.
     fn store(&mut self, register: Register, v: u64)
-        requires { IsKept register v }
-        ensures { self.new ≡ stored self.old register v }
+        requires { HasWritableBitsAlone register v }
+        ensures { self.new ≡ register_written self.old register v }
     {
         match register {
-            Register::Sstatus => self.status = Status::of(v),
+            Register::Sstatus => self.status = SupervisorStatus::of(v),
             Register::Sie => self.sie = v,
             Register::Stvec => self.stvec = v,
             Register::Scounteren => self.scounteren = v,
@@ -295,7 +295,7 @@ impl Csrs {
             return None;
         }
         Some(Csrs {
-            status: Status::of(p.sstatus),
+            status: SupervisorStatus::of(p.sstatus),
             sie: p.sie,
             stvec: p.stvec,
             scounteren: p.scounteren,
@@ -315,7 +315,7 @@ impl Csrs {
 fn is_held(p: &CsrParts) -> bool
     ensures { result ≡ is_held p.now }
 {
-    Status::of(p.sstatus).number() == p.sstatus
+    SupervisorStatus::of(p.sstatus).number() == p.sstatus
         && Register::Sie.holds(p.sie)
         && Register::Stvec.holds(p.stvec)
         && Register::Scounteren.holds(p.scounteren)
@@ -332,7 +332,8 @@ fn has_known_mode(v: u64) -> bool
     mode == 0 || mode == 8
 }
 
-/// Where a trap of this cause goes.
+/// Where a trap of this cause goes. Of the interrupt's number the bits below 2^62 count, since four times
+/// the others is a multiple of 2^64.
 fn trap_vector(stvec: u64, cause: u64) -> u64
     ensures { result ≡ trap_vector stvec cause }
 {

@@ -14,6 +14,3 @@ mod table;
 
 pub use csrs::Csrs;
 pub use parts::CsrParts;
-
-#[cfg(test)]
-mod tests;

@@ -1,16 +1,15 @@
 //! The bits of sstatus.
 
-ghost use Rattle.std.specs.Prelude.{◌≡◌, ◌<◌, ◌+◌, ◌*◌, ◌^◌, bit_and};
-ghost use Rattle.rv64_csr.specs.Table.{row_of};
+ghost use Rattle.std.specs.Prelude.{◌≡◌, ◌+◌, ◌*◌, ◌^◌, bit_and};
+ghost use Rattle.rv64_csr.specs.Table.{csr_row};
 ghost use Rattle.rv64_csr.specs.declared.table.Register.TheVariants.{Sstatus};
-ghost use Rattle.rv64_csr.specs.Bits.{has_bit};
-ghost use Rattle.rv64_csr.specs.Status.{sstatus_of, status_of};
+ghost use Rattle.rv64_csr.specs.Status.{sstatus_of, status_from};
 
-use ras_bits::Mode;
+use ras_bits::{Mode, has_bit};
 
 /// What sstatus holds. UXL always reads 2, the 64-bit U mode.
 #[derive(Clone, Copy)]
-pub struct Status {
+pub struct SupervisorStatus {
     /// SIE: S mode takes interrupts.
     pub sie: bool,
     /// SPIE: SIE before the trap.
@@ -23,7 +22,7 @@ pub struct Status {
     pub mxr: bool,
 }
 
-impl Status {
+impl SupervisorStatus {
     /// The register as it reads.
     pub fn number(self) -> u64
         ensures { result ≡ sstatus_of self }
@@ -41,11 +40,11 @@ impl Status {
     }
 
     /// The register after a write of these bits.
-    pub fn of(bits: u64) -> Status
-        ensures value { result ≡ status_of bits }
-        ensures kept { sstatus_of (status_of bits) ≡ bit_and bits (row_of Sstatus).writable + 2 * 2 ^ 32 }
+    pub fn of(bits: u64) -> SupervisorStatus
+        ensures value { result ≡ status_from bits }
+        ensures kept { sstatus_of (status_from bits) ≡ bit_and bits (csr_row Sstatus).writable + 2 * 2 ^ 32 }
     {
-        Status {
+        SupervisorStatus {
             sie: has_bit(bits, 1),
             spie: has_bit(bits, 5),
             spp: if has_bit(bits, 8) {
@@ -57,12 +56,4 @@ impl Status {
             mxr: has_bit(bits, 19),
         }
     }
-}
-
-/// Whether bit `i` of `n` is set. `i` is below 64.
-pub fn has_bit(n: u64, i: u32) -> bool
-    requires { i < 64 }
-    ensures { result ≡ has_bit n i }
-{
-    (n >> i) % 2 == 1
 }

@@ -2,7 +2,7 @@
 
 ghost use Rattle.std.specs.Prelude.{◌≡◌, ◌==◌};
 ghost use Rattle.std.specs.List.{find};
-ghost use Rattle.rv64_csr.specs.Table.{supervisor, counter, row_of, register_at, holds, is_open_to, is_read_only};
+ghost use Rattle.rv64_csr.specs.Table.{supervisor, counter, csr_row, csr_at, holds, is_open_to, is_read_only};
 
 use ras_bits::Mode;
 
@@ -87,7 +87,7 @@ impl Row {
 impl Register {
     /// Its row of the table of registers.
     pub fn row(self) -> Row
-        ensures { result ≡ row_of self }
+        ensures { result ≡ csr_row self }
     {
         match self {
             Register::Sstatus => Row::supervisor(0x100, 0xC_0122),
@@ -114,16 +114,16 @@ impl Register {
     }
 
     /// The register of a number.
-    #[tactic(auto, unfolding(crate::specs::Table::register_at))]
+    #[tactic(auto, unfolding(crate::specs::Table::csr_at))]
     pub fn at(number: u16) -> Option<Register>
-        ensures { result ≡ register_at number }
+        ensures { result ≡ csr_at number }
     {
         register_in(&REGISTERS, number)
     }
 }
 
 fn register_in(registers: &[Register], number: u16) -> Option<Register>
-    ensures { result ≡ find (λ register. (row_of register).number == number) registers.now }
+    ensures { result ≡ find (λ register. (csr_row register).number == number) registers.now }
 {
     registers
         .iter()

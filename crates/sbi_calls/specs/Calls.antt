@@ -1,5 +1,6 @@
--- The calls to the firmware, by a7 (the extension) and a6 (the function).
-use Rattle.std.specs.Prelude.{ℕ, ◌%◌, ◌==◌, List, [], ◌∷◌, ◌&&◌, nat_le, slice_index, Option, Some, None, if◌then◌else◌}
+-- The calls to the firmware, by a7 (the extension) and a6 (the function) (SBI 2.0, "Binary Encoding", and the base, TIME, SRST,
+-- DBCN and legacy extensions).
+use Rattle.std.specs.Prelude.{ℕ, ◌%◌, ◌≤◌, ◌≢◌, ◌==◌, List, [], ◌∷◌, ◌&&◌, nat_le, slice_index, Option, Some, None, if◌then◌else◌}
 use Rattle.std.specs.List.{list_any}
 use Rattle.sbi_calls.specs.declared.call.SbiCall.{SbiCall}
 use Rattle.sbi_calls.specs.declared.call.SbiCall.TheVariants.{Base, Probe, SetTimer, LegacyTimer, Putchar, Getchar, LegacyShutdown, Reset, ConWrite, ConRead, ConByte, Unknown}
@@ -26,12 +27,15 @@ debug_console = 0x4442_434E
 abbrev pub legacy_set_timer : ℕ
 legacy_set_timer = 0x00
 
+-- the legacy extension that writes a byte
 abbrev pub legacy_console_putchar : ℕ
 legacy_console_putchar = 0x01
 
+-- the legacy extension that reads a byte
 abbrev pub legacy_console_getchar : ℕ
 legacy_console_getchar = 0x02
 
+-- the legacy extension that shuts down
 abbrev pub legacy_shutdown : ℕ
 legacy_shutdown = 0x08
 
@@ -66,6 +70,11 @@ abbrev pub call_of : List ℕ → SbiCall
 call_of registers =
     let x = slice_index registers in
     call_by (x 17) (x 16) (x 10) (x 11) (x 12)
+
+-- a function of the base extension is one that answers a constant
+abbrev pub IsServed : SbiCall → Type 0
+IsServed (Base function) = (function ≤ 6) × (function ≢ 3)
+IsServed _ = Unit {0}
 
 -- the specification's version 2.0, the implementation's number and version; mvendorid, marchid and mimpid are 0
 abbrev pub base_value : ℕ → ℕ

@@ -1,13 +1,13 @@
 //! Which call a hart's registers ask for.
 
 ghost use Rattle.std.specs.Prelude.{◌≡◌, ◌≤◌, ◌≢◌};
-ghost use Rattle.sbi_calls.specs.Calls.{call_of, base_value, probe_value};
+ghost use Rattle.sbi_calls.specs.Calls.{call_of, IsServed, base_value, probe_value};
 
 /// Base extension.
 const BASE: u64 = 0x10;
 
 /// Timer extension, "TIME".
-const TIME: u64 = 0x5449_4D45;
+const TIMER: u64 = 0x5449_4D45;
 
 /// System reset extension, "SRST".
 const SYSTEM_RESET: u64 = 0x5352_5354;
@@ -58,13 +58,14 @@ impl SbiCall {
     /// written the low 8 bits of a0 are taken.
     #[tactic(auto, unfolding(crate::specs::Calls::call_by))]
     pub fn of(regs: &[u64; 32]) -> SbiCall
-        ensures { result ≡ call_of regs.now }
+        ensures value { result ≡ call_of regs.now }
+        ensures constant { IsServed result }
     {
         let (a0, a1, a2) = (regs[10], regs[11], regs[12]);
         match (regs[17], regs[16]) {
             (BASE, 3) => SbiCall::Probe(a0),
             (BASE, function) if function <= 6 => SbiCall::Base(function as u8),
-            (TIME, 0) => SbiCall::SetTimer(a0),
+            (TIMER, 0) => SbiCall::SetTimer(a0),
             (SYSTEM_RESET, 0) => SbiCall::Reset {
                 kind: a0,
                 reason: a1,
@@ -113,7 +114,7 @@ pub fn probe_answer(ext: u64) -> u64
 {
     match ext {
         BASE
-        | TIME
+        | TIMER
         | SYSTEM_RESET
         | DEBUG_CONSOLE
         | LEGACY_SET_TIMER

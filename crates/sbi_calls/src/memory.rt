@@ -1,13 +1,13 @@
 //! The memory of a console call.
 
-ghost use Rattle.std.specs.Prelude.{◌≡◌, ℕ, ◌+◌, ◌<◌, ◌↔◌, IsSome};
-ghost use Rattle.sbi_calls.specs.Span.{span_of, IsInRam};
+ghost use Rattle.std.specs.Prelude.{◌≡◌, ℕ, ◌+◌, ◌<◌, ◌↔◌, IsSome, true};
+ghost use Rattle.ras_bits.specs.Map.{is_ram};
+ghost use Rattle.sbi_calls.specs.Span.{span_of};
 
-/// The physical address of RAM's first byte.
-const RAM_BASE: u64 = 0x8000_0000;
+use ras_bits::{RAM_START, word_address};
 
-/// The most bytes that one call takes.
-const MOST_BYTES: u64 = 4096;
+/// The most bytes that one console call takes.
+pub const MOST_BYTES: u64 = 4096;
 
 /// The bytes of a console call that names `n` bytes at the physical address `hi` · 2^64 + `lo`, in a
 /// machine whose RAM has `words` words of 64 bits: the address of the first byte and the number of the
@@ -17,7 +17,7 @@ const MOST_BYTES: u64 = 4096;
 /// `n` isn't 0 and the `n` bytes don't all lie in RAM. With `n` 0 and `hi` 0 any `lo` will do.
 pub fn span(n: u64, lo: u64, hi: u64, words: u32) -> Option<(u64, u64)>
     ensures value { result ≡ span_of n lo hi words }
-    ensures all_in_ram { IsSome result ↔ ((hi ≡ 0) × ((i : ℕ) → i < n → IsInRam words (lo + i))) }
+    ensures all_in_ram { IsSome result ↔ ((hi ≡ 0) × ((i : ℕ) → i < n → is_ram words (lo + i) ≡ true)) }
 {
     if hi != 0 {
         return None;
@@ -25,8 +25,8 @@ pub fn span(n: u64, lo: u64, hi: u64, words: u32) -> Option<(u64, u64)>
     if n == 0 {
         return Some((lo, 0));
     }
-    let end = RAM_BASE + 8 * words as u64;
-    if lo < RAM_BASE || lo >= end || end - lo < n {
+    let end = word_address(words);
+    if lo < RAM_START || lo >= end || end - lo < n {
         return None;
     }
     Some((lo, n.min(MOST_BYTES)))

@@ -2,13 +2,14 @@
 use Rattle.std.proofs.Common.{◌≡◌, ℕ, zero, suc, ◌+◌, ◌*◌, ◌≤◌, ◌<◌, ◌==◌, Bool, true, false, if◌then◌else◌, List, [], ◌∷◌, ◌++◌, refl, ap, ◌∙◌, sym, arith, subst}
 use Rattle.ras_bits.specs.Fields.{field}
 use Rattle.sv39_walk.specs.declared.request.Request.{Request}
-use Rattle.sv39_walk.specs.declared.entry.Outcome.{Outcome}
-use Rattle.sv39_walk.specs.declared.entry.Outcome.TheVariants.{PageFault, NextTable, Translated}
+use Rattle.sv39_walk.specs.declared.entry.EntryMeaning.{EntryMeaning}
+use Rattle.sv39_walk.specs.declared.entry.EntryMeaning.TheVariants.{PageFault, NextTable, Translated}
 use Rattle.sv39_walk.specs.declared.step.WalkStep.{WalkStep}
 use Rattle.sv39_walk.specs.declared.step.WalkStep.TheVariants as step
-use Rattle.sv39_walk.specs.Entry.{is_malformed, is_invalid, is_writable_only, has_reserved_bits, is_pointer, has_leaf_bits}
-use Rattle.sv39_walk.specs.Walking.{Walking, Done, Fault, Need, IsNeed, page_fault, entry_address, is_canonical, next_table, walk, walk_from, outcome_of, by_outcome, after_entry, after_entries, next_of, needs}
-use Rattle.sv39_walk.specs.Place.{Standing, left_of, left_after}
+use Rattle.sv39_walk.specs.Entry.{page_bytes, is_malformed, is_invalid, is_writable_only, has_reserved_bits, is_pointer, has_leaf_bits}
+use Rattle.sv39_walk.specs.Walking.{Walking, Done, Fault, Need, IsNeed, page_fault, entry_address, is_canonical, next_table, walk, walk_from, meaning_of, by_meaning, after_entry, after_entries, next_of, needs}
+use Rattle.sv39_walk.specs.Progress.{Standing, left_of, left_after}
+use Rattle.sv39_walk.specs.WalkingLaws.{each_meaning}
 use Rattle.sv39_walk.specs.Steps.{step_from, walk_step, StandsAfter}
 
 -- an end stays
@@ -26,23 +27,23 @@ after_entries-append walking [] entry = refl
 after_entries-append walking (e ∷ entries) entry = after_entries-append (after_entry walking e) entries entry
 
 -- the three ways of an entry
-by_outcome_step : (cause : ℕ) (below : ℕ → Walking) (below_step : ℕ → WalkStep) (entries : List ℕ) (outcome : Outcome)
+by_meaning_step : (cause : ℕ) (below : ℕ → Walking) (below_step : ℕ → WalkStep) (entries : List ℕ) (meaning : EntryMeaning)
     → ((table : ℕ) → next_of (after_entries (below table) entries) ≡ below_step table)
-    → next_of (after_entries (by_outcome (Fault cause) below Done outcome) entries) ≡ by_outcome (step.Fault cause) below_step step.Done outcome
-by_outcome_step cause below below_step entries PageFault h = ap next_of (after_fault cause entries)
-by_outcome_step cause below below_step entries (NextTable table) h = h table
-by_outcome_step cause below below_step entries (Translated address) h = ap next_of (after_done address entries)
+    → next_of (after_entries (by_meaning (Fault cause) below Done meaning) entries) ≡ by_meaning (step.Fault cause) below_step step.Done meaning
+by_meaning_step cause below below_step entries PageFault h = ap next_of (after_fault cause entries)
+by_meaning_step cause below below_step entries (NextTable table) h = h table
+by_meaning_step cause below below_step entries (Translated address) h = ap next_of (after_done address entries)
 
 from_step : (request : Request) (level table : ℕ) (entries : List ℕ)
     → next_of (after_entries (walk_from request level table) entries) ≡ step_from request level table entries
 unfolding walk_from step_from
 from_step request zero table [] = refl
 from_step request zero table (entry ∷ entries) =
-    by_outcome_step (page_fault request.kind) (λ below. Fault (page_fault request.kind)) (λ below. step.Fault (page_fault request.kind)) entries (outcome_of request 0 entry)
+    by_meaning_step (page_fault request.kind) (λ below. Fault (page_fault request.kind)) (λ below. step.Fault (page_fault request.kind)) entries (meaning_of request 0 entry)
     (λ below. ap next_of (after_fault (page_fault request.kind) entries))
 from_step request (suc level) table [] = refl
 from_step request (suc level) table (entry ∷ entries) =
-    by_outcome_step (page_fault request.kind) (walk_from request level) (λ below. step_from request level below entries) entries (outcome_of request (suc level) entry)
+    by_meaning_step (page_fault request.kind) (walk_from request level) (λ below. step_from request level below entries) entries (meaning_of request (suc level) entry)
     (λ below. from_step request level below entries)
 
 started : (bare canonical : Bool) (address cause : ℕ) (from : Walking) (entries : List ℕ) (from' : WalkStep)
@@ -53,44 +54,27 @@ started true canonical address cause from entries from' h = ap next_of (after_do
 started false true address cause from entries from' h = h
 started false false address cause from entries from' h = ap next_of (after_fault cause entries)
 
--- the walk that keeps its place wants what the walk begun again wants
+-- the walk that keeps how far it is wants what the walk begun again wants
 pub walk_by_entries : (satp : ℕ) (request : Request) (entries : List ℕ)
     → next_of (after_entries (walk satp request) entries) ≡ walk_step satp request entries
 unfolding walk walk_step
 walk_by_entries satp request entries =
-    started (field satp 60 4 == 0) (is_canonical request.va) request.va (page_fault request.kind) (walk_from request 2 (field satp 0 44 * 4096)) entries _
-    (from_step request 2 (field satp 0 44 * 4096) entries)
+    started (field satp 60 4 == 0) (is_canonical request.va) request.va (page_fault request.kind) (walk_from request 2 (field satp 0 44 * page_bytes)) entries _
+    (from_step request 2 (field satp 0 44 * page_bytes) entries)
 
 -- how many entries are needed
 pub needs_from : (request : Request) (level table : ℕ) → needs (walk_from request level table) ≡ level + 1
-unfolding walk_from outcome_of is_malformed is_invalid is_writable_only has_reserved_bits is_pointer has_leaf_bits
+unfolding walk_from meaning_of is_malformed is_invalid is_writable_only has_reserved_bits is_pointer has_leaf_bits
 needs_from request zero table = refl
 needs_from request (suc level) table = ap suc (needs_from request level (next_table 1)) ∙ omega arith
 
-needs_by_outcome : (cause : ℕ) (below : ℕ → Walking) (most : ℕ) (outcome : Outcome)
-    → ((table : ℕ) → needs (below table) ≤ most) → needs (by_outcome (Fault cause) below Done outcome) ≤ most
-needs_by_outcome cause below most PageFault h = omega arith
-needs_by_outcome cause below most (NextTable table) h = h table
-needs_by_outcome cause below most (Translated address) h = omega arith
-
-pub needs_left_after : (request : Request) (level : ℕ) (outcome : Outcome) → needs (left_after request level outcome) ≤ level
-needs_left_after request zero outcome =
-    needs_by_outcome (page_fault request.kind) (λ below. Fault (page_fault request.kind)) 0 outcome (λ below. omega arith)
-needs_left_after request (suc level) outcome =
-    needs_by_outcome (page_fault request.kind) (walk_from request level) (suc level) outcome
-    (λ below. let e : needs (walk_from request level below) ≡ level + 1 = needs_from request level below in omega arith)
-
-needs_started : (bare canonical : Bool) (address cause : ℕ) (from : Walking) → needs from ≤ 3
-    → needs (if bare then Done address else if canonical then from else Fault cause) ≤ 3
-needs_started true canonical address cause from h = omega arith
-needs_started false true address cause from h = h
-needs_started false false address cause from h = omega arith
-
-pub needs_walk : (satp : ℕ) (request : Request) → needs (walk satp request) ≤ 3
-unfolding walk
-needs_walk satp request =
-    needs_started (field satp 60 4 == 0) (is_canonical request.va) request.va (page_fault request.kind) (walk_from request 2 (field satp 0 44 * 4096))
-    (let e : needs (walk_from request 2 (field satp 0 44 * 4096)) ≡ 2 + 1 = needs_from request 2 (field satp 0 44 * 4096) in omega arith)
+pub needs_left_after : (request : Request) (level : ℕ) (meaning : EntryMeaning) → needs (left_after request level meaning) ≤ level
+needs_left_after request zero meaning =
+    each_meaning (λ walking. needs walking ≤ 0) (page_fault request.kind) (λ below. Fault (page_fault request.kind)) meaning (omega arith)
+    (λ below. omega arith) (λ address. omega arith)
+needs_left_after request (suc level) meaning =
+    each_meaning (λ walking. needs walking ≤ suc level) (page_fault request.kind) (walk_from request level) meaning (omega arith)
+    (λ below. let e : needs (walk_from request level below) ≡ level + 1 = needs_from request level below in omega arith) (λ address. omega arith)
 
 pub after_given : (satp : ℕ) (request : Request) (entries : List ℕ) (old new : Standing) (entry : ℕ)
     → left_of new ≡ after_entry (left_of old) entry → StandsAfter satp request entries old → StandsAfter satp request (entries ++ entry ∷ []) new
@@ -102,16 +86,16 @@ pub next_given : (satp : ℕ) (request : Request) (entries : List ℕ) (standing
     → answer ≡ next_of (left_of standing) → StandsAfter satp request entries standing → answer ≡ walk_step satp request entries
 next_given satp request entries standing answer h stands = h ∙ ap next_of stands.left ∙ walk_by_entries satp request entries
 
--- a place reached by an entry is nearer to the end
-pub needs_place : (request : Request) (level table : ℕ) (outcome : Outcome) (left : Walking)
-    → left ≡ left_after request level outcome → needs left < needs (walk_from request level table)
-needs_place request level table outcome left h =
-    let few : needs left ≤ level = subst (λ walking. needs walking ≤ level) (sym h) (needs_left_after request level outcome) in
+-- what is reached by an entry is nearer to the end
+pub needs_progress : (request : Request) (level table : ℕ) (meaning : EntryMeaning) (left : Walking)
+    → left ≡ left_after request level meaning → needs left < needs (walk_from request level table)
+needs_progress request level table meaning left h =
+    let few : needs left ≤ level = subst (λ walking. needs walking ≤ level) (sym h) (needs_left_after request level meaning) in
     let many : needs (walk_from request level table) ≡ level + 1 = needs_from request level table in
     omega arith
 
 pub left_after_is : (request : Request) (level table entry : ℕ)
-    → after_entry (walk_from request level table) entry ≡ left_after request level (outcome_of request level entry)
+    → after_entry (walk_from request level table) entry ≡ left_after request level (meaning_of request level entry)
 unfolding walk_from
 left_after_is request zero table entry = refl
 left_after_is request (suc level) table entry = refl
@@ -127,3 +111,7 @@ pub is_need : (walking : Walking) (address : ℕ) → step.Need address ≡ next
 is_need (Done a) address e = cc
 is_need (Fault c) address e = cc
 is_need (Need a go_on) address e = tt
+
+pub need_given : (walking : Walking) (request : Request) (level table : ℕ) → walking ≡ walk_from request level table → IsNeed walking
+need_given walking request level table e =
+    is_need walking (entry_address table level request.va) (next_from request level table (entry_address table level request.va) refl ∙ ap next_of (sym e))

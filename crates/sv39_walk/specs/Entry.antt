@@ -1,5 +1,7 @@
--- A page-table entry, and why an access may not use it (privileged manual, "Sv39").
-use Rattle.std.specs.Prelude.{ℕ, ◌*◌, ◌/◌, ◌%◌, ◌^◌, ◌==◌, Bool, false, not, ◌&&◌, ◌||◌}
+-- A page-table entry, and why an access may not use it (privileged manual, "Sv39"; "Virtual Address Translation Process", steps 3
+-- to 7, and "Memory Privilege in sstatus").
+use Rattle.std.specs.Prelude.{ℕ, ◌*◌, ◌%◌, ◌^◌, ◌==◌, Bool, false, not, ◌&&◌, ◌||◌}
+use Rattle.ras_bits.specs.Bits.{has_bit}
 use Rattle.ras_bits.specs.Fields.{field}
 use Rattle.ras_bits.specs.declared.terms.Mode.{Mode}
 use Rattle.ras_bits.specs.declared.terms.Mode.TheVariants.{User, Supervisor}
@@ -8,10 +10,6 @@ use Rattle.ras_bits.specs.declared.terms.Access.TheVariants.{Fetch, Load, Store}
 use Rattle.sv39_walk.specs.declared.request.Request.{Request}
 
 -- ---- the bits of an entry
-
--- bit i is set
-abbrev pub has_bit : ℕ → ℕ → Bool
-has_bit entry i = entry / 2 ^ i % 2 == 1
 
 -- V
 abbrev pub is_valid : ℕ → Bool
@@ -44,6 +42,10 @@ is_dirty entry = has_bit entry 7
 -- the physical page number (PPN), bits 53:10
 abbrev pub page_number : ℕ → ℕ
 page_number entry = field entry 10 44
+
+-- how many bytes a page has, and so a table
+abbrev pub page_bytes : ℕ
+page_bytes = 4096
 
 -- ---- the causes of a page fault at an entry of any kind
 

@@ -1,16 +1,20 @@
 //! What the bits of a page-table entry say.
 
 ghost use Rattle.std.specs.Prelude.{◌≡◌, ◌<◌, ◌≤◌, ◌^◌};
-ghost use Rattle.sv39_walk.specs.Entry.{has_bit, page_number, is_malformed, is_pointer, has_leaf_bits, is_misaligned_superpage, lacks_permission, is_outside_mode, is_not_accessed, is_not_dirty, denies};
-ghost use Rattle.sv39_walk.specs.Walking.{leaf_address, outcome_of};
-ghost use Rattle.sv39_walk.specs.Place.{IsOutcome};
+ghost use Rattle.ras_bits.specs.Bits.{has_bit};
+ghost use Rattle.sv39_walk.specs.Entry.{page_number, is_malformed, is_pointer, has_leaf_bits, is_misaligned_superpage, lacks_permission, is_outside_mode, is_not_accessed, is_not_dirty, denies};
+ghost use Rattle.sv39_walk.specs.Walking.{leaf_address, meaning_of};
+ghost use Rattle.sv39_walk.specs.Progress.{HasTableAddress};
 
 use crate::request::Request;
-use ras_bits::{Access, Mode, get_field};
+use ras_bits::{Access, Mode, get_field, has_bit};
+
+/// How many bytes a page has, and so a table.
+pub const PAGE_BYTES: u64 = 4096;
 
 /// What an entry means to an access.
 #[derive(Clone, Copy)]
-pub enum Outcome {
+pub enum EntryMeaning {
     /// The access is refused.
     PageFault,
     /// The table at this physical address comes next.
@@ -21,63 +25,56 @@ pub enum Outcome {
 
 /// A page-table entry.
 #[derive(Clone, Copy)]
-pub struct Entry(pub u64);
+pub struct PageTableEntry(pub u64);
 
-impl Entry {
-    fn has(self, bit: u32) -> bool
-        requires { bit < 64 }
-        ensures { result ≡ has_bit self.0 bit }
-    {
-        (self.0 >> bit) % 2 == 1
-    }
-
+impl PageTableEntry {
     /// Bit V.
     fn is_valid(self) -> bool
         ensures { result ≡ has_bit self.0 0 }
     {
-        self.has(0)
+        has_bit(self.0, 0)
     }
 
     /// Bit R.
     fn is_readable(self) -> bool
         ensures { result ≡ has_bit self.0 1 }
     {
-        self.has(1)
+        has_bit(self.0, 1)
     }
 
     /// Bit W.
     fn is_writable(self) -> bool
         ensures { result ≡ has_bit self.0 2 }
     {
-        self.has(2)
+        has_bit(self.0, 2)
     }
 
     /// Bit X.
     fn is_executable(self) -> bool
         ensures { result ≡ has_bit self.0 3 }
     {
-        self.has(3)
+        has_bit(self.0, 3)
     }
 
     /// Bit U.
     fn is_for_user(self) -> bool
         ensures { result ≡ has_bit self.0 4 }
     {
-        self.has(4)
+        has_bit(self.0, 4)
     }
 
     /// Bit A.
     fn is_accessed(self) -> bool
         ensures { result ≡ has_bit self.0 6 }
     {
-        self.has(6)
+        has_bit(self.0, 6)
     }
 
     /// Bit D.
     fn is_dirty(self) -> bool
         ensures { result ≡ has_bit self.0 7 }
     {
-        self.has(7)
+        has_bit(self.0, 7)
     }
 
     /// The physical page number (PPN), bits 53:10.
@@ -177,24 +174,24 @@ impl Entry {
     }
 
     /// What the entry means to an access at this level. `level` is 0, 1 or 2.
-    #[tactic(auto, unfolding(crate::specs::Walking::outcome_of))]
-    pub fn outcome(self, level: u8, request: Request) -> Outcome
+    #[tactic(auto, unfolding(crate::specs::Walking::meaning_of))]
+    pub fn meaning(self, level: u8, request: Request) -> EntryMeaning
         requires { level ≤ 2 }
-        ensures value { result ≡ outcome_of request level self.0 }
-        ensures table { IsOutcome result }
+        ensures value { result ≡ meaning_of request level self.0 }
+        ensures table { HasTableAddress result }
     {
         if self.is_malformed() {
-            Outcome::PageFault
+            EntryMeaning::PageFault
         } else if self.is_pointer() {
             if self.has_leaf_bits() {
-                Outcome::PageFault
+                EntryMeaning::PageFault
             } else {
-                Outcome::NextTable(self.page_number() * 4096)
+                EntryMeaning::NextTable(self.page_number() * PAGE_BYTES)
             }
         } else if self.denies(level, request) {
-            Outcome::PageFault
+            EntryMeaning::PageFault
         } else {
-            Outcome::Translated(self.leaf_address(level, request.va))
+            EntryMeaning::Translated(self.leaf_address(level, request.va))
         }
     }
 
@@ -203,6 +200,6 @@ impl Entry {
         requires { level ≤ 2 }
         ensures { result ≡ leaf_address level va self.0 }
     {
-        (self.page_number() * 4096 + va % (1 << (12 + 9 * level as u32))) % (1 << 56)
+        (self.page_number() * PAGE_BYTES + va % (1 << (12 + 9 * level as u32))) % (1 << 56)
     }
 }

@@ -1,13 +1,13 @@
-//! A walk that keeps its place in the tables.
+//! A walk that keeps its progress in the tables.
 
 ghost use Rattle.sv39_walk.specs.Steps.{StandsAfter, walk_step};
 ghost use Rattle.sv39_walk.specs.declared.request.Request.{Request};
 ghost use Rattle.std.specs.Prelude.{ℕ, List, [], ◌∷◌, ◌++◌, ◌≡◌, ◌≤◌, ◌<◌, ◌/◌, ◌^◌, ◌⊎◌, IsTrue};
-ghost use Rattle.sv39_walk.specs.Walking.{walk, outcome_of, page_fault, is_canonical, entry_address, after_entry, next_of, IsNeed, needs, NeedsAtMost};
-ghost use Rattle.sv39_walk.specs.Place.{left_of, left_from, is_place, left_after};
+ghost use Rattle.sv39_walk.specs.Walking.{walk, meaning_of, page_fault, is_canonical, entry_address, after_entry, next_of, IsNeed, AsksInNeed, needs, NeedsAtMost};
+ghost use Rattle.sv39_walk.specs.Progress.{left_of, left_from, is_progress, left_after};
 
-use crate::entry::{Entry, Outcome};
-use crate::place::Place;
+use crate::entry::{EntryMeaning, PAGE_BYTES, PageTableEntry};
+use crate::progress::Progress;
 use crate::request::Request;
 use crate::step::WalkStep;
 use ras_bits::{Access, Mode, get_field};
@@ -20,18 +20,18 @@ use std::marker::Model;
 #[derive(Drop)]
 pub struct Walk {
     request: Request,
-    place: Place,
+    progress: Progress,
 }
 
 impl Model for Walk {
     ghost use Rattle.std.specs.Prelude.{IsTrue};
-    ghost use Rattle.sv39_walk.specs.Place.{Standing, is_place};
+    ghost use Rattle.sv39_walk.specs.Progress.{Standing, is_progress};
 
     ghost Value = { Standing };
 
-    ghost view = { λ a. record { request = a.request; place = a.place } };
+    ghost view = { λ a. record { request = a.request; progress = a.progress } };
 
-    ghost invariant = { λ a. IsTrue (is_place a.place) };
+    ghost invariant = { λ a. IsTrue (is_progress a.progress) };
 }
 
 impl Walk {
@@ -56,17 +56,17 @@ impl Walk {
             sum,
             mxr,
         };
-        let place = if get_field(satp, 60, 4) == 0 {
-            Place::Done(va)
+        let progress = if get_field(satp, 60, 4) == 0 {
+            Progress::Done(va)
         } else if is_canonical_address(va) {
-            Place::Table {
+            Progress::Table {
                 level: 2,
-                table: get_field(satp, 0, 44) * 4096,
+                table: get_field(satp, 0, 44) * PAGE_BYTES,
             }
         } else {
-            Place::Fault
+            Progress::Fault
         };
-        Walk { request, place }
+        Walk { request, progress }
     }
 
     /// The physical address of the entry that the walk needs, or how it ended: with the translated
@@ -74,17 +74,18 @@ impl Walk {
     #[tactic(auto, unfolding(crate::specs::Walking::walk_from))]
     pub fn next(&self) -> WalkStep
         ensures next { result ≡ next_of (left_of self.now) }
+        ensures need { AsksInNeed result (left_of self.now) }
         ensures by_entries { (satp : ℕ) (request : Request) (entries : List ℕ)
             → StandsAfter satp request entries self.now → result ≡ walk_step satp request entries }
     {
-        match self.place {
-            Place::Table { level, table } => WalkStep::Need(address_of_entry(
+        match self.progress {
+            Progress::Table { level, table } => WalkStep::Need(address_of_entry(
                 table,
                 level,
                 self.request.va,
             )),
-            Place::Done(address) => WalkStep::Done(address),
-            Place::Fault => WalkStep::Fault(fault_cause(self.request.kind)),
+            Progress::Done(address) => WalkStep::Done(address),
+            Progress::Fault => WalkStep::Fault(fault_cause(self.request.kind)),
         }
     }
 
@@ -97,27 +98,27 @@ impl Walk {
             → StandsAfter satp request entries self.old → StandsAfter satp request (entries ++ pte ∷ []) self.new }
         ensures nearer { needs (left_of self.new) < needs (left_of self.old) }
     {
-        if let Place::Table { level, .. } = self.place {
-            self.place = place_after(self.request, level, Entry(pte));
+        if let Progress::Table { level, .. } = self.progress {
+            self.progress = progress_after(self.request, level, PageTableEntry(pte));
         }
     }
 }
 
 /// Where an entry of this level leads: to the next table, to the translated address, or to a page fault.
 #[tactic(auto, unfolding(crate::specs::Walking::walk_from))]
-fn place_after(request: Request, level: u8, entry: Entry) -> Place
+fn progress_after(request: Request, level: u8, entry: PageTableEntry) -> Progress
     requires { level ≤ 2 }
-    ensures is_place { IsTrue (is_place result) }
-    ensures left { left_from request result ≡ left_after request level (outcome_of request level entry.0) }
+    ensures is_progress { IsTrue (is_progress result) }
+    ensures left { left_from request result ≡ left_after request level (meaning_of request level entry.0) }
 {
-    match entry.outcome(level, request) {
-        Outcome::PageFault => Place::Fault,
-        Outcome::NextTable(_) if level == 0 => Place::Fault,
-        Outcome::NextTable(table) => Place::Table {
+    match entry.meaning(level, request) {
+        EntryMeaning::PageFault => Progress::Fault,
+        EntryMeaning::NextTable(_) if level == 0 => Progress::Fault,
+        EntryMeaning::NextTable(table) => Progress::Table {
             level: level - 1,
             table,
         },
-        Outcome::Translated(address) => Place::Done(address),
+        EntryMeaning::Translated(address) => Progress::Done(address),
     }
 }
 
