@@ -1,5 +1,4 @@
 pub mod Walks
 pub mod Transfers
 pub mod Numbers
-pub mod Calls
 pub mod Stops

@@ -10,12 +10,13 @@ use Rattle.poison_mem.specs.Asking.{Asking, Answer, Ask, Played, Ended, Poisoned
 use Rattle.sbi_calls.specs.declared.stop.GuestStop.{GuestStop}
 use Rattle.sbi_calls.specs.declared.stop.GuestStop.TheVariants.{ConsoleFull}
 use Rattle.ras_bits.specs.declared.terms.Mode.{Mode}
-use Rattle.rv64_csr.specs.File.{CsrFile, pending_of}
+use Rattle.rv64_csr.specs.Csrs.{CsrFile, pending_of}
 use Rattle.rv64_hart.specs.State.{ArchitecturalState, next_pc}
 use Rattle.rv64_hart.specs.Outcome.{Outcome, End, Store, has_room}
 use Rattle.rv64_hart.specs.Turn.{Stepped, stored, finished, step_of, turn_by, turn, instruction_turn}
-use Rattle.rv64_hart.specs.Laws.{ended_by}
-use Rattle.rv64_hart.specs.Stops.{Answers, StopsAlone, LacksRoom, turn_stops}
+use Rattle.rv64_hart.specs.Turn.{ended_by}
+use Rattle.rv64_hart.specs.Stops.{AlwaysAnswers, StopsAlone, LacksRoom}
+use Rattle.rv64_hart.specs.StopsLaws.{turn_stops}
 use Rattle.rv64_hart.specs.declared.ends.TurnEnd.TheVariants as ends
 
 -- the answer of a play that ended is as this says
@@ -29,7 +30,7 @@ ends_by_cell IsRight (Good value) go_on w use_kind b log each = each value
 ends_by_cell IsRight Poison go_on w use_kind b log each = tt
 
 play_ends : {X B L : Type 0} (bus : BusMeaning B) (logged : L → Event → L) (IsRight : X → Type 0) (m : Asking X) (b : B) (log : L)
-    → Answers IsRight m → EndsAs IsRight (play bus logged m b log)
+    → AlwaysAnswers IsRight m → EndsAs IsRight (play bus logged m b log)
 play_ends bus logged IsRight (Answer x) b log fact = fact
 play_ends bus logged IsRight (Ask w use_kind go_on) b log each =
     ends_by_cell IsRight (bus.read b w).cell _ w use_kind _ _

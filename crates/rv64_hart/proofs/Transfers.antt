@@ -7,9 +7,9 @@ use Rattle.poison_mem.specs.declared.cell.UseKind.{UseKind}
 use Rattle.poison_mem.specs.declared.cell.Cell.TheVariants.{Good, Poison}
 use Rattle.poison_mem.specs.Asking.{play, Ended, Poisoned}
 use Rattle.rv64_hart.specs.State.{ArchitecturalState}
-use Rattle.rv64_hart.specs.Access.{word_of}
+use Rattle.ras_bits.specs.Map.{word_at}
 use Rattle.rv64_hart.specs.Outcome.{writing}
-use Rattle.rv64_hart.specs.Firmware.{bytes_asked, bytes_written, words_of, answered, part_of, part_stored, parts_stored}
+use Rattle.rv64_hart.specs.Firmware.{bytes_asked, bytes_written, words_touched, answered, part_of, part_stored, parts_stored}
 use Rattle.rv64_hart.specs.Turn.{stored, step_of}
 use Rattle.rv64_hart.specs.declared.firmware.SbiError.TheVariants.{Success}
 use Rattle.rv64_hart.specs.declared.ends.TurnEnd.TheVariants as ends
@@ -33,24 +33,24 @@ module _ {B L : Type 0} (bus : BusMeaning B) (logged : L → Event → L) where
 
   -- a console write whose words were read
   pub written_ended : (h : ArchitecturalState) (address n from count : ℕ) (none bytes console : List ℕ) (b b' : B) (log log' : L)
-      → none ≡ [] → from ≡ word_of address → count ≡ words_of address n
+      → none ≡ [] → from ≡ word_at address → count ≡ words_touched address n
       → play bus logged (bytes_asked none from count) b log ≡ Ended bytes b' log'
       → step_of bus logged (bytes_written h address n) h console b log
       ≡ step_of bus logged (writing (answered h Success n) (take n (drop (address % 8) bytes))) h console b' log'
   unfolding bytes_written
   written_ended h address n from count none bytes console b b' log log' empty start is e =
-      step_ended bus logged (bytes_asked [] (word_of address) (words_of address n)) (λ bytes. writing (answered h Success n) (take n (drop (address % 8) bytes))) bytes h console b b' log log'
+      step_ended bus logged (bytes_asked [] (word_at address) (words_touched address n)) (λ bytes. writing (answered h Success n) (take n (drop (address % 8) bytes))) bytes h console b b' log log'
       (rw (← empty, ← start, ← is) e)
 
   -- a console write that met poison
   pub written_poisoned : (h : ArchitecturalState) (address n from count w : ℕ) (none console : List ℕ) (b b' : B) (log log' : L)
-      → none ≡ [] → from ≡ word_of address → count ≡ words_of address n
+      → none ≡ [] → from ≡ word_at address → count ≡ words_touched address n
       → play bus logged (bytes_asked none from count) b log ≡ Poisoned w UseKind.Sbi b' log'
       → step_of bus logged (bytes_written h address n) h console b log
       ≡ record { answer = ends.Poisoned w UseKind.Sbi; hart = h; bus = b'; log = log'; console = console }
   unfolding bytes_written
   written_poisoned h address n from count w none console b b' log log' empty start is e =
-      step_poisoned bus logged (bytes_asked [] (word_of address) (words_of address n)) (λ bytes. writing (answered h Success n) (take n (drop (address % 8) bytes))) w UseKind.Sbi h console b b' log log'
+      step_poisoned bus logged (bytes_asked [] (word_at address) (words_touched address n)) (λ bytes. writing (answered h Success n) (take n (drop (address % 8) bytes))) w UseKind.Sbi h console b b' log log'
       (rw (← empty, ← start, ← is) e)
 
   -- the store of the next word's part

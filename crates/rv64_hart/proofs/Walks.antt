@@ -3,15 +3,16 @@ use Rattle.std.proofs.Common.{◌≡◌, ℕ, Bool, true, false, Option, Some, N
 use Rattle.ras_bits.specs.declared.terms.Access.{Access}
 use Rattle.sv39_walk.specs.declared.step.WalkStep.{WalkStep}
 use Rattle.sv39_walk.specs.declared.step.WalkStep.TheVariants as step
-use Rattle.sv39_walk.specs.Walking.{Walking, Done, Fault, Need, next_of, after_entry, IsNeed}
+use Rattle.sv39_walk.specs.Walking.{Walking, Done, Fault, Need, next_of, after_entry}
 use Rattle.poison_mem.specs.Bus.{BusMeaning, logged_all}
 use Rattle.poison_mem.specs.declared.event.Event.{Event}
 use Rattle.poison_mem.specs.declared.cell.UseKind.{UseKind}
 use Rattle.poison_mem.specs.declared.cell.Cell.TheVariants.{Good, Poison}
 use Rattle.poison_mem.specs.Asking.{Asking, Answer, Ask, play, Ended, Poisoned, ◌>>=◌, ◌then◌}
-use Rattle.poison_mem.specs.Plays.{play_bind}
+use Rattle.poison_mem.specs.AskingLaws.{play_bind}
 use Rattle.rv64_hart.specs.State.{ArchitecturalState}
-use Rattle.rv64_hart.specs.Access.{is_ram, word_of, is_aligned}
+use Rattle.ras_bits.specs.Map.{is_ram, word_at}
+use Rattle.rv64_hart.specs.Access.{is_aligned}
 use Rattle.rv64_hart.specs.Operations.{width_of, kind_of, performed_at, accessed}
 use Rattle.rv64_hart.specs.declared.operation.Operation.{Operation}
 use Rattle.rv64_hart.specs.Traps.{code_of, access_fault, trapped}
@@ -21,11 +22,6 @@ use Rattle.rv64_hart.specs.declared.locate.Located.{Located}
 use Rattle.rv64_hart.specs.declared.locate.Located.TheVariants as found
 use Rattle.rv64_hart.specs.Turn.{finished, step_of, instruction_turn, fetched_at}
 use Rattle.rv64_hart.specs.declared.ends.TurnEnd.TheVariants as ends
-
-pub is_need : (left : Walking) (address : ℕ) → step.Need address ≡ next_of left → IsNeed left
-is_need (Done a) address h = cc
-is_need (Fault a) address h = cc
-is_need (Need a go_on) address h = tt
 
 -- the address in a step
 address_in : WalkStep → ℕ
@@ -87,23 +83,23 @@ module _ {B L : Type 0} (bus : BusMeaning B) (logged : L → Event → L) where
 
   -- an entry outside RAM
   pub played_outside : (words : ℕ) (kind : Access) (left : Walking) (address : ℕ) (b : B) (log : L)
-      → step.Need address ≡ next_of left → None ≡ (if is_ram words address then Some (word_of address) else None)
+      → step.Need address ≡ next_of left → None ≡ (if is_ram words address then Some (word_at address) else None)
       → play bus logged (walked words kind left) b log ≡ Ended (Refused (code_of (access_fault kind))) b log
   played_outside words kind left address b log h e =
       ap (λ m. play bus logged m b log)
       (walked_need words kind left address h ∙ outside (is_ram words address) _ (Answer (Refused (code_of (access_fault kind)))) (test_of_none _ _ e))
 
   played_at : (words : ℕ) (kind : Access) (left : Walking) (address w : ℕ) (b : B) (log : L)
-      → step.Need address ≡ next_of left → Some w ≡ (if is_ram words address then Some (word_of address) else None)
+      → step.Need address ≡ next_of left → Some w ≡ (if is_ram words address then Some (word_at address) else None)
       → play bus logged (walked words kind left) b log ≡ play bus logged (Ask w UseKind.Walk (λ entry. walked words kind (after_entry left entry))) b log
   played_at words kind left address w b log h e =
       ap (λ m. play bus logged m b log)
       (walked_need words kind left address h
-      ∙ chosen_some (is_ram words address) (word_of address) w (λ v. Ask v UseKind.Walk (λ entry. walked words kind (after_entry left entry))) _ e)
+      ∙ chosen_some (is_ram words address) (word_at address) w (λ v. Ask v UseKind.Walk (λ entry. walked words kind (after_entry left entry))) _ e)
 
   -- a poisoned entry
   pub played_poison : (words : ℕ) (kind : Access) (left : Walking) (address w : ℕ) (b b' : B) (log log' : L)
-      → step.Need address ≡ next_of left → Some w ≡ (if is_ram words address then Some (word_of address) else None)
+      → step.Need address ≡ next_of left → Some w ≡ (if is_ram words address then Some (word_at address) else None)
       → Poison ≡ (bus.read b w).cell → b' ≡ (bus.read b w).after → log' ≡ logged_all logged log (bus.read b w).events
       → play bus logged (walked words kind left) b log ≡ Poisoned w UseKind.Walk b' log'
   played_poison words kind left address w b b' log log' h e cell after events =
@@ -111,7 +107,7 @@ module _ {B L : Type 0} (bus : BusMeaning B) (logged : L → Event → L) where
 
   -- an entry that is given to the walk
   pub played_good : (words : ℕ) (kind : Access) (left left' : Walking) (address w pte : ℕ) (b b' : B) (log log' : L)
-      → step.Need address ≡ next_of left → Some w ≡ (if is_ram words address then Some (word_of address) else None)
+      → step.Need address ≡ next_of left → Some w ≡ (if is_ram words address then Some (word_at address) else None)
       → Good pte ≡ (bus.read b w).cell → b' ≡ (bus.read b w).after → log' ≡ logged_all logged log (bus.read b w).events
       → left' ≡ after_entry left pte
       → play bus logged (walked words kind left) b log ≡ play bus logged (walked words kind left') b' log'
@@ -133,7 +129,7 @@ module _ {B L : Type 0} (bus : BusMeaning B) (logged : L → Event → L) where
   step_poisoned m f w use_kind h console b b' log log' e =
       ap (finished bus logged h console) (play_bind bus logged m f b log ∙ ap (λ p. p then (λ x b log. play bus logged (f x) b log)) e)
 
-  -- an access whose place is known
+  -- an access of which it is known where it goes
   pub accessed_ended : (words : ℕ) (h : ArchitecturalState) (op : Operation) (kind : Access) (address : ℕ) (location : Location) (console : List ℕ) (b b' : B) (log log' : L)
       → is_aligned (width_of op) address ≡ true → kind ≡ kind_of op
       → play bus logged (located words h kind address) b log ≡ Ended location b' log'
@@ -151,7 +147,7 @@ module _ {B L : Type 0} (bus : BusMeaning B) (logged : L → Event → L) where
   accessed_poisoned words h op kind address w console b b' log log' aligned is e =
       rw (aligned, ← is) (step_poisoned (located words h kind address) (performed_at h op address) w UseKind.Walk h console b b' log log' e)
 
-  -- a fetch whose place is known
+  -- a fetch of which it is known where it goes
   pub turned_ended : (words : ℕ) (h : ArchitecturalState) (now : ℕ) (input : List ℕ) (pc : ℕ) (location : Location) (console : List ℕ) (b b' : B) (log log' : L)
       → pc ≡ h.pc → play bus logged (located words h Access.Fetch pc) b log ≡ Ended location b' log'
       → step_of bus logged (instruction_turn words h now input) h console b log ≡ step_of bus logged (fetched_at words h now input location) h console b' log'

@@ -1,21 +1,13 @@
--- Accesses to memory: the words of RAM that addresses name, and the bytes of a word that a load takes and a store changes.
-use Rattle.std.specs.Prelude.{ℕ, Bool, ◌-◌, ◌*◌, ◌/◌, ◌%◌, ◌^◌, ◌==◌, ◌&&◌, nat_lt, nat_le, if◌then◌else◌}
+-- Accesses to memory: the bytes of a word that a load takes and a store changes (unprivileged manual, "Load and Store
+-- Instructions").
+use Rattle.std.specs.Prelude.{ℕ, Bool, ◌-◌, ◌*◌, ◌/◌, ◌%◌, ◌^◌, ◌==◌, if◌then◌else◌}
 use Rattle.ras_bits.specs.Fields.{field, sign_extended}
-use Rattle.sbi_calls.specs.Span.{ram_base}
 use Rattle.rv64_decode.specs.declared.instr.LoadOp.{LoadOp}
 use Rattle.rv64_decode.specs.declared.instr.LoadOp.TheVariants.{Lb, Lh, Lw, Ld, Lbu, Lhu, Lwu}
 use Rattle.rv64_decode.specs.declared.instr.StoreOp.{StoreOp}
 use Rattle.rv64_decode.specs.declared.instr.StoreOp.TheVariants.{Sb, Sh, Sw, Sd}
 use Rattle.rv64_hart.specs.declared.access.Width.{Width}
 use Rattle.rv64_hart.specs.declared.access.Width.TheVariants.{Byte, Halfword, Word, Doubleword}
-
--- the byte at this address is in RAM
-abbrev pub is_ram : ℕ → ℕ → Bool
-is_ram words address = nat_le ram_base address && nat_lt ((address - ram_base) / 8) words
-
--- the word of an address in RAM
-abbrev pub word_of : ℕ → ℕ
-word_of address = (address - ram_base) / 8
 
 -- the instruction at the pc, in the word that holds it
 abbrev pub instruction_at : ℕ → ℕ → ℕ
@@ -30,6 +22,7 @@ bytes_in Halfword = 2
 bytes_in Word = 4
 bytes_in Doubleword = 8
 
+-- the width of a load
 abbrev pub load_width : LoadOp → Width
 load_width Lb = Byte
 load_width Lh = Halfword
@@ -39,6 +32,7 @@ load_width Lbu = Byte
 load_width Lhu = Halfword
 load_width Lwu = Word
 
+-- the width of a store
 abbrev pub store_width : StoreOp → Width
 store_width Sb = Byte
 store_width Sh = Halfword

@@ -1,5 +1,5 @@
 -- Calls to the firmware (SBI specification, chapters "Base", "TIME", "SRST", "DBCN" and the legacy extensions).
-use Rattle.std.specs.Prelude.{◌≡◌, ◌≢◌, ◌≤◌, ◌<◌, ℕ, zero, suc, ◌+◌, ◌-◌, ◌*◌, ◌/◌, ◌%◌, ◌^◌, ◌==◌, min, max, nat_lt, List, [], ◌∷◌, ◌++◌, take, drop, length, slice_index, Option, Some, None, if◌then◌else◌}
+use Rattle.std.specs.Prelude.{◌≡◌, ◌≤◌, ◌<◌, ℕ, zero, suc, ◌+◌, ◌-◌, ◌/◌, ◌%◌, ◌^◌, ◌==◌, min, max, nat_lt, List, [], ◌∷◌, ◌++◌, take, drop, length, slice_index, Option, Some, None, if◌then◌else◌}
 use Rattle.std.specs.Int.{w64, to_le_bytes}
 use Rattle.ras_bits.specs.Fields.{number_at}
 use Rattle.poison_mem.specs.declared.cell.UseKind.{UseKind}
@@ -9,13 +9,15 @@ use Rattle.sbi_calls.specs.declared.call.SbiCall.TheVariants as call
 use Rattle.sbi_calls.specs.declared.stop.GuestStop.{GuestStop}
 use Rattle.sbi_calls.specs.declared.stop.GuestStop.TheVariants.{Shutdown}
 use Rattle.sbi_calls.specs.Calls.{call_of, base_value, probe_value, reset_stop}
-use Rattle.sbi_calls.specs.Span.{span_of, ram_base}
+use Rattle.sbi_calls.specs.Span.{span_of}
 use Rattle.rv64_hart.specs.declared.firmware.SbiError.{SbiError}
 use Rattle.rv64_hart.specs.declared.firmware.SbiError.TheVariants.{Success, NotSupported, InvalidParam}
 use Rattle.rv64_hart.specs.declared.ends.TurnEnd.{TurnEnd}
 use Rattle.rv64_hart.specs.declared.ends.TurnEnd.TheVariants as ends
 use Rattle.rv64_hart.specs.State.{ArchitecturalState, with_register, next_pc}
-use Rattle.rv64_hart.specs.Access.{word_of, byte_mask, placed}
+use Rattle.ras_bits.specs.Map.{word_address, word_at}
+use Rattle.ras_bits.specs.declared.map.TheConstants.{RAM_START}
+use Rattle.rv64_hart.specs.Access.{byte_mask, placed}
 use Rattle.rv64_hart.specs.Outcome.{Outcome, End, Store, went, writing}
 
 -- ---- answers
@@ -58,8 +60,8 @@ byte_taken h input =
 -- ---- bytes in memory
 
 -- how many words hold n bytes from an address on
-abbrev pub words_of : ℕ → ℕ → ℕ
-words_of address n = if n == 0 then 0 else (address % 8 + n + 7) / 8
+abbrev pub words_touched : ℕ → ℕ → ℕ
+words_touched address n = if n == 0 then 0 else (address % 8 + n + 7) / 8
 
 -- the bytes of n words from word w on, asked for in rising order, behind those that are there
 unfoldable pub bytes_asked : List ℕ → ℕ → ℕ → Asking (List ℕ)
@@ -71,17 +73,18 @@ bytes_asked bytes w (suc n) = do
 -- a console write: no byte is written before the last word is there
 unfoldable pub bytes_written : ArchitecturalState → ℕ → ℕ → Asking Outcome
 bytes_written h address n = do
-  bytes ← bytes_asked [] (word_of address) (words_of address n)
+  bytes ← bytes_asked [] (word_at address) (words_touched address n)
   writing (answered h Success n) (take n (drop (address % 8) bytes))
 
--- the bytes of a list, laid from an address on, that fall into word w, and the first one's place in it
+-- the bytes of a list, laid from an address on, that fall into word w, and which byte of it the first one is
 pub record Part : Type 0 where
   pub first : ℕ
   pub bytes : List ℕ
 
+-- the part of a span of bytes that lies in word w
 abbrev pub part_of : ℕ → List ℕ → ℕ → Part
 part_of address bytes w =
-    let base = ram_base + 8 * w in
+    let base = word_address w in
     let from = max address base in
     let to = min (address + length bytes) (base + 8) in
     record { first = from - base; bytes = take (to - from) (drop (from - address) bytes) }
@@ -104,7 +107,7 @@ unfoldable pub bytes_read : ArchitecturalState → List ℕ → ℕ → ℕ → 
 bytes_read h input address n =
     let bytes = take n (drop h.place input) in
     Answer (End (record (answered h Success (length bytes)) { place = h.place + length bytes })
-    (parts_stored address bytes (word_of address) (words_of address (length bytes))) [] None)
+    (parts_stored address bytes (word_at address) (words_touched address (length bytes))) [] None)
 
 -- a call that names bytes in memory
 abbrev pub with_span : ArchitecturalState → (ℕ → ℕ → Asking Outcome) → Option (ℕ × ℕ) → Asking Outcome
@@ -113,6 +116,7 @@ with_span h go_on (Some (address, n)) = go_on address n
 
 -- ---- every call
 
+-- a call, by what it asks for
 unfoldable pub served : ℕ → ArchitecturalState → List ℕ → SbiCall → Asking Outcome
 served words h input (call.Base function) = went (answered h Success (base_value function))
 served words h input (call.Probe extension) = went (answered h Success (probe_value extension))
@@ -133,11 +137,6 @@ firmware_called words h input = served words h input (call_of h.registers)
 
 -- ---- the program's answers
 
--- a function of the base extension is one that answers a constant
-abbrev pub IsServed : SbiCall → Type 0
-IsServed (call.Base function) = (function ≤ 6) × (function ≢ 3)
-IsServed _ = Unit {0}
-
 -- what a reset leaves
 abbrev pub ResetEnds : Option GuestStop → ArchitecturalState → ArchitecturalState → TurnEnd → Type 0
 ResetEnds None before after answer = (answer ≡ ends.Went) × (after ≡ answered before InvalidParam 0)
@@ -150,5 +149,5 @@ asked_end (Some w) bytes b log = Poisoned w UseKind.Sbi b log
 
 -- there are no bytes, or all n bytes from the address on are in RAM
 pub record IsTouched (words address n : ℕ) : Type 0 where
-  pub starts : 0 < n → ram_base ≤ address
-  pub ends : 0 < n → address + n ≤ ram_base + 8 * words
+  pub starts : 0 < n → RAM_START ≤ address
+  pub ends : 0 < n → address + n ≤ word_address words

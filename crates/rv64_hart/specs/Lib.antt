@@ -7,8 +7,8 @@ pub mod Operations
 pub mod System
 pub mod Firmware
 pub mod Turn
+pub mod TurnLaws
 pub mod Within
-pub mod Bounds
-pub mod Bound
+pub mod WithinLaws
 pub mod Stops
-pub mod Laws
+pub mod StopsLaws

@@ -16,7 +16,8 @@ use Rattle.rv64_hart.specs.declared.operation.Operation.TheVariants as operation
 use Rattle.rv64_hart.specs.declared.reservation.Reservation.{Reservation}
 use Rattle.rv64_hart.specs.State.{ArchitecturalState, computed, passed}
 use Rattle.rv64_hart.specs.Traps.{misaligned, trapped, raised}
-use Rattle.rv64_hart.specs.Access.{word_of, load_width, store_width, is_aligned, first_bit, load_result, store_mask, store_value}
+use Rattle.ras_bits.specs.Map.{word_at}
+use Rattle.rv64_hart.specs.Access.{load_width, store_width, is_aligned, first_bit, load_result, store_mask, store_value}
 use Rattle.rv64_hart.specs.Outcome.{Outcome, Store, went, went_with}
 use Rattle.rv64_hart.specs.Translation.{Location, At, Refused, located}
 
@@ -47,7 +48,7 @@ kind_of (operation.Atomic op wide rd operand) = Access.Store
 -- the store of a value: its mask tells which bytes of its word change, and no word is asked for
 abbrev pub store_of : StoreOp → ℕ → ℕ → ℕ → Store
 store_of op address physical value =
-    record { w = word_of physical; value = store_value address value; mask = store_mask (store_width op) address }
+    record { w = word_at physical; value = store_value address value; mask = store_mask (store_width op) address }
 
 -- the hart holds a reservation of this physical address and width
 abbrev pub is_reserved : Option Reservation → ℕ → Bool → Bool
@@ -57,13 +58,13 @@ is_reserved (Some r) physical wide = (r.address == physical) && beq r.wide wide
 -- a load: it asks for the one word that holds its bytes
 unfoldable pub loaded : ArchitecturalState → LoadOp → ℕ → ℕ → ℕ → Asking Outcome
 loaded h op rd address physical = do
-  value ← asked (word_of physical) UseKind.Load
+  value ← asked (word_at physical) UseKind.Load
   went (computed h rd (load_result op value (first_bit address)))
 
 -- LR: it loads, and reserves the address
 unfoldable pub reserved : ArchitecturalState → Bool → ℕ → ℕ → ℕ → Asking Outcome
 reserved h wide rd address physical = do
-  value ← asked (word_of physical) UseKind.Amo
+  value ← asked (word_at physical) UseKind.Amo
   went (computed (record h { reservation = Some (record { address = physical; wide = wide }) }) rd
       (load_result (atomic_load wide) value (first_bit address)))
 
@@ -78,11 +79,11 @@ conditionally_stored h wide rd value address physical =
 -- an atomic memory operation: it gives the old value and stores the operation's
 unfoldable pub exchanged : ArchitecturalState → AmoOp → Bool → ℕ → ℕ → ℕ → ℕ → Asking Outcome
 exchanged h op wide rd operand address physical = do
-  value ← asked (word_of physical) UseKind.Amo
+  value ← asked (word_at physical) UseKind.Amo
   let old = load_result (atomic_load wide) value (first_bit address) in
       went_with (computed h rd old) (store_of (atomic_store wide) address physical (amo_result op old operand wide))
 
--- an operation at a virtual address that goes to a physical one; both have the same place in their word
+-- an operation at a virtual address that goes to a physical one; both are the same byte of their word
 unfoldable pub performed : ArchitecturalState → Operation → ℕ → ℕ → Asking Outcome
 performed h (operation.Load op rd) address physical = loaded h op rd address physical
 performed h (operation.Store op value) address physical = went_with (passed h) (store_of op address physical value)
@@ -90,7 +91,7 @@ performed h (operation.LoadReserved wide rd) address physical = reserved h wide 
 performed h (operation.StoreConditional wide rd value) address physical = conditionally_stored h wide rd value address physical
 performed h (operation.Atomic op wide rd operand) address physical = exchanged h op wide rd operand address physical
 
--- an operation once its place is known
+-- an operation once it is known where it goes
 abbrev pub performed_at : ArchitecturalState → Operation → ℕ → Location → Asking Outcome
 performed_at h op address (At physical) = performed h op address physical
 performed_at h op address (Refused cause) = went (trapped h cause address)

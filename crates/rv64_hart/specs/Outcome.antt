@@ -2,6 +2,7 @@
 use Rattle.std.specs.Prelude.{ℕ, Bool, nat_le, ◌-◌, length, List, [], ◌∷◌, Option, None}
 use Rattle.poison_mem.specs.Asking.{Asking, Answer}
 use Rattle.sbi_calls.specs.declared.stop.GuestStop.{GuestStop}
+use Rattle.rv64_hart.specs.declared.console.TheConstants.{CONSOLE_ROOM}
 use Rattle.rv64_hart.specs.State.{ArchitecturalState}
 
 -- a store of the bytes of the mask's set bits into word w
@@ -26,10 +27,6 @@ went_with h store = Answer (End h (store ∷ []) [] None)
 abbrev pub writing : ArchitecturalState → List ℕ → Asking Outcome
 writing h bytes = Answer (End h [] bytes None)
 
--- how many bytes a console takes
-abbrev pub console_room : ℕ
-console_room = 1_048_576
-
 -- a console that holds these bytes has room for those
 abbrev pub has_room : List ℕ → List ℕ → Bool
-has_room console bytes = nat_le (length bytes) (console_room - length console)
+has_room console bytes = nat_le (length bytes) (CONSOLE_ROOM - length console)

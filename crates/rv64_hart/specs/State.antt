@@ -1,9 +1,9 @@
--- What a hart keeps between two steps, and how parts of it change.
+-- What a hart keeps between two steps, and how parts of it change (unprivileged manual, "Programmers' Model for Base Integer ISA"
+-- and "Zicntr"; privileged manual, "Supervisor-Level ISA"; a0 at the start: SBI 2.0, "Hart State Management Extension").
 use Rattle.std.specs.Prelude.{ℕ, List, Option, None, ◌+◌, ◌%◌, ◌^◌, ◌==◌, if◌then◌else◌, slice_index, slice_set, replicate}
 use Rattle.ras_bits.specs.declared.terms.Mode.{Mode}
 use Rattle.ras_bits.specs.declared.terms.Mode.TheVariants.{Supervisor}
-use Rattle.rv64_csr.specs.File as file
-use Rattle.rv64_csr.specs.File.{CsrFile}
+use Rattle.rv64_csr.specs.Csrs.{CsrFile, reset_file}
 use Rattle.rv64_hart.specs.declared.reservation.Reservation.{Reservation}
 
 -- The hart's number, its pc, the registers x0 to x31, its mode, its supervisor registers with the timer and the number
@@ -25,7 +25,7 @@ reset id entry = record {
   pc = entry;
   registers = slice_set (replicate 32 0) 10 id;
   mode = Supervisor;
-  csrs = file.reset;
+  csrs = reset_file;
   reservation = None;
   place = 0;
 }

@@ -4,7 +4,7 @@ use Rattle.std.specs.Prelude.{◌≡◌, ℕ, Bool, true, false, not, ◌||◌, 
 use Rattle.std.specs.Int.{w64, bit_not}
 use Rattle.ras_bits.specs.declared.terms.Mode.{Mode}
 use Rattle.ras_bits.specs.declared.terms.Mode.TheVariants.{User, Supervisor}
-use Rattle.rv64_csr.specs.File.{CsrFile, Written, read_of, write_of, returned}
+use Rattle.rv64_csr.specs.Csrs.{CsrFile, Written, read_of, write_of, returned}
 use Rattle.rv64_decode.specs.declared.instr.CsrOp.{CsrOp}
 use Rattle.rv64_decode.specs.declared.instr.CsrOp.TheVariants.{Rw, Rs, Rc, Rwi, Rsi, Rci}
 use Rattle.rv64_hart.specs.State.{ArchitecturalState, register, retired, computed, passed}
@@ -43,21 +43,21 @@ csr_operand h Rsi src = src
 csr_operand h Rci src = src
 
 -- a write that was let in
-abbrev pub let_in : ℕ → Written → Option CsrAccess
-let_in old written = if written.answer then Some (record { old = old; file = written.after }) else None
+abbrev pub access_permitted : ℕ → Written → Option CsrAccess
+access_permitted old written = if written.answer then Some (record { old = old; file = written.after }) else None
 
 -- after a read that was let in: bits are set or cleared only where the source isn't x0 or 0
-abbrev pub after_read : CsrFile → Mode → CsrOp → ℕ → ℕ → ℕ → Option ℕ → Option CsrAccess
-after_read file mode op number src operand None = None
-after_read file mode op number src operand (Some old) =
-    if is_exchange op || not (src == 0) then let_in old (write_of file number mode (new_value op old operand))
+abbrev pub after_csr_read : CsrFile → Mode → CsrOp → ℕ → ℕ → ℕ → Option ℕ → Option CsrAccess
+after_csr_read file mode op number src operand None = None
+after_csr_read file mode op number src operand (Some old) =
+    if is_exchange op || not (src == 0) then access_permitted old (write_of file number mode (new_value op old operand))
     else Some (record { old = old; file = file })
 
 -- an access to the register of a number; an exchange whose old value goes to x0 doesn't read; none where it isn't permitted
 unfoldable pub csr_accessed : CsrFile → Mode → ℕ → CsrOp → ℕ → ℕ → ℕ → ℕ → Option CsrAccess
 csr_accessed file mode now op rd number src operand =
-    if is_exchange op && (rd == 0) then let_in 0 (write_of file number mode operand)
-    else after_read file mode op number src operand (read_of file number mode now)
+    if is_exchange op && (rd == 0) then access_permitted 0 (write_of file number mode operand)
+    else after_csr_read file mode op number src operand (read_of file number mode now)
 
 -- the old value goes to a register
 abbrev pub csr_answered : ArchitecturalState → ℕ → ℕ → Option CsrAccess → ArchitecturalState
@@ -78,6 +78,7 @@ abbrev pub returned_in : Mode → ArchitecturalState → ℕ → ArchitecturalSt
 returned_in User h word = illegal h word
 returned_in Supervisor h word = retired (trap_left h)
 
+-- SRET, which is illegal in U mode
 unfoldable pub trap_returned : ArchitecturalState → ℕ → ArchitecturalState
 trap_returned h word = returned_in h.mode h word
 
@@ -86,6 +87,7 @@ abbrev pub privileged_in : Mode → ArchitecturalState → ℕ → Architectural
 privileged_in User h word = illegal h word
 privileged_in Supervisor h word = passed h
 
+-- an instruction of S mode that does nothing
 unfoldable pub privileged : ArchitecturalState → ℕ → ArchitecturalState
 privileged h word = privileged_in h.mode h word
 

@@ -1,4 +1,5 @@
--- Where an access goes: its address is translated, each page-table entry is asked for, and what it comes to must be in RAM.
+-- Where an access goes: its address is translated, each page-table entry is asked for, and what it comes to must be in RAM
+-- (privileged manual, "Virtual Address Translation Process").
 use Rattle.std.specs.Prelude.{◌≡◌, ℕ, true, if◌then◌else◌}
 use Rattle.ras_bits.specs.declared.terms.Access.{Access}
 use Rattle.poison_mem.specs.declared.cell.UseKind.{UseKind}
@@ -6,7 +7,7 @@ use Rattle.poison_mem.specs.Asking.{Asking, Answer, Ask, Played, Ended, Poisoned
 use Rattle.sv39_walk.specs.declared.request.Request.{Request}
 use Rattle.sv39_walk.specs.Walking.{Walking, Done, Fault, Need, walk}
 use Rattle.rv64_hart.specs.State.{ArchitecturalState}
-use Rattle.rv64_hart.specs.Access.{is_ram, word_of}
+use Rattle.ras_bits.specs.Map.{is_ram, word_at}
 use Rattle.rv64_hart.specs.Traps.{code_of, access_fault}
 use Rattle.rv64_hart.specs.declared.locate.Located.{Located}
 use Rattle.rv64_hart.specs.declared.locate.Located.TheVariants as found
@@ -23,7 +24,7 @@ in_ram words kind physical = if is_ram words physical then At physical else Refu
 -- an entry's word is asked for, where the entry is in RAM; else the access is refused
 abbrev pub entry_asked : ℕ → Access → ℕ → (ℕ → Asking Location) → Asking Location
 entry_asked words kind address go_on =
-    if is_ram words address then Ask (word_of address) UseKind.Walk go_on else Answer (Refused (code_of (access_fault kind)))
+    if is_ram words address then Ask (word_at address) UseKind.Walk go_on else Answer (Refused (code_of (access_fault kind)))
 
 -- a walk through page tables in RAM
 unfoldable pub walked : ℕ → Access → Walking → Asking Location
@@ -46,9 +47,9 @@ located_end (found.Refused cause) b log = Ended (Refused cause) b log
 located_end (found.Poisoned w) b log = Poisoned w UseKind.Walk b log
 
 -- what was found is in RAM
-abbrev pub IsInRam : ℕ → Located → Type 0
-IsInRam words (found.At physical) = is_ram words physical ≡ true
-IsInRam words _ = Unit {0}
+abbrev pub IsFoundInRam : ℕ → Located → Type 0
+IsFoundInRam words (found.At physical) = is_ram words physical ≡ true
+IsFoundInRam words _ = Unit {0}
 
 -- what the program finds at a physical address
 abbrev pub located_at : ℕ → Access → ℕ → Located

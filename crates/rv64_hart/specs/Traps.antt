@@ -4,7 +4,7 @@ use Rattle.std.specs.Prelude.{ℕ}
 use Rattle.ras_bits.specs.declared.terms.Access.{Access}
 use Rattle.ras_bits.specs.declared.terms.Access.TheVariants.{Fetch, Load, Store}
 use Rattle.ras_bits.specs.declared.terms.Mode.TheVariants.{Supervisor}
-use Rattle.rv64_csr.specs.File.{trap_vector, entered}
+use Rattle.rv64_csr.specs.Csrs.{trap_vector, entered}
 use Rattle.rv64_hart.specs.declared.traps.Exception.{Exception}
 use Rattle.rv64_hart.specs.declared.traps.Exception.TheVariants as exception
 use Rattle.rv64_hart.specs.State.{ArchitecturalState}

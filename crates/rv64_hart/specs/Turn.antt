@@ -1,4 +1,5 @@
--- One turn of a hart: what it asks for and what it comes to, and what a step over a bus makes of it.
+-- One turn of a hart: what it asks for and what it comes to, and what a step over a bus makes of it (unprivileged manual,
+-- chapters "RV32I", "RV64I", "Zifencei", "Zicsr", "M" and "A"; privileged manual).
 use Rattle.std.specs.Prelude.{ℕ, ℤ, Bool, List, [], ◌∷◌, ◌++◌, Option, Some, None, ◌*◌, ◌/◌, ◌%◌, ◌^◌, ◌==◌, if◌then◌else◌}
 use Rattle.std.specs.Int.{w64, cast_unsigned}
 use Rattle.ras_bits.specs.Fields.{sign_extended}
@@ -11,14 +12,15 @@ use Rattle.poison_mem.specs.Bus.{BusMeaning, logged_all}
 use Rattle.poison_mem.specs.Asking.{Asking, asked, follow, ◌>>=◌, Played, Ended, Poisoned, play}
 use Rattle.sbi_calls.specs.declared.stop.GuestStop.{GuestStop}
 use Rattle.sbi_calls.specs.declared.stop.GuestStop.TheVariants.{ConsoleFull}
-use Rattle.rv64_csr.specs.File.{pending_of}
+use Rattle.rv64_csr.specs.Csrs.{pending_of}
 use Rattle.rv64_decode.specs.declared.instr.Instr.{Instr}
 use Rattle.rv64_decode.specs.declared.instr.Instr.TheVariants as instr
-use Rattle.rv64_decode.specs.Rows.{row}
+use Rattle.rv64_decode.specs.Decoding.{row}
 use Rattle.rv64_alu.specs.Results.{alu_result, alu_w_result, mul_result, branch_taken}
 use Rattle.rv64_hart.specs.State.{ArchitecturalState, register, with_register, with_pc, add64, retired, computed, passed}
 use Rattle.rv64_hart.specs.Traps.{trapped, raised, illegal}
-use Rattle.rv64_hart.specs.Access.{word_of, instruction_at}
+use Rattle.ras_bits.specs.Map.{word_at}
+use Rattle.rv64_hart.specs.Access.{instruction_at}
 use Rattle.rv64_hart.specs.Outcome.{Outcome, End, Store, went, has_room}
 use Rattle.rv64_hart.specs.Translation.{Location, At, Refused, located}
 use Rattle.rv64_hart.specs.Operations.{accessed}
@@ -69,6 +71,7 @@ abbrev pub called_in : Mode → ℕ → ArchitecturalState → List ℕ → Aski
 called_in User words h input = went (raised h exception.EnvironmentCallFromUser 0)
 called_in Supervisor words h input = firmware_called words h input
 
+-- ECALL: a firmware call from S mode, an exception from U mode
 unfoldable pub called : ℕ → ArchitecturalState → List ℕ → Asking Outcome
 called words h input = called_in h.mode words h input
 
@@ -104,11 +107,11 @@ executed words h now input word (instr.Illegal x) = went (illegal h word)
 unfoldable pub executed_word : ℕ → ArchitecturalState → ℕ → List ℕ → ℕ → Asking Outcome
 executed_word words h now input word = executed words h now input word (row word)
 
--- the fetch of the word at the pc, once its place is known
+-- the fetch of the word at the pc, once it is known where it goes
 unfoldable pub fetched_at : ℕ → ArchitecturalState → ℕ → List ℕ → Location → Asking Outcome
 fetched_at words h now input (Refused cause) = went (trapped h cause h.pc)
 fetched_at words h now input (At physical) = do
-  value ← asked (word_of physical) UseKind.Fetch
+  value ← asked (word_at physical) UseKind.Fetch
   executed_word words h now input (instruction_at h.pc value)
 
 -- a turn in which no interrupt is taken
@@ -146,6 +149,7 @@ stored bus logged (s ∷ stores) b log =
     let storing = bus.store b s.w s.value s.mask in
     stored bus logged stores storing.after (logged_all logged log storing.events)
 
+-- how a turn ends, by its stop
 abbrev pub end_of : Option GuestStop → TurnEnd
 end_of None = ends.Went
 end_of (Some stop) = ends.Stop stop
@@ -158,6 +162,13 @@ finished bus logged h console (Ended (End after stores bytes stop) b log) =
     then record { answer = end_of stop; hart = after; bus = (stored bus logged stores b log).0; log = (stored bus logged stores b log).1; console = console ++ bytes }
     else record { answer = ends.Stop ConsoleFull; hart = h; bus = b; log = log; console = console }
 finished bus logged h console (Poisoned w use_kind b log) = record { answer = ends.Poisoned w use_kind; hart = h; bus = b; log = log; console = console }
+
+-- what an end leaves, by whether the console has room
+abbrev pub ended_by : {B L : Type 0} → BusMeaning B → (L → Event → L) → ArchitecturalState → List ℕ → ArchitecturalState → List Store → List ℕ → Option GuestStop → B → L → Bool → Stepped B L
+ended_by bus logged h console after stores bytes stop b log fits =
+    if fits
+    then record { answer = end_of stop; hart = after; bus = (stored bus logged stores b log).0; log = (stored bus logged stores b log).1; console = console ++ bytes }
+    else record { answer = ends.Stop ConsoleFull; hart = h; bus = b; log = log; console = console }
 
 -- a step over a bus whose turn is this
 abbrev pub step_of : {B L : Type 0} → BusMeaning B → (L → Event → L) → Asking Outcome → ArchitecturalState → List ℕ → B → L → Stepped B L

@@ -1,13 +1,11 @@
 //! Words of RAM, and the bytes of them that loads and stores take (unprivileged manual, "Load and Store Instructions").
 
-ghost use Rattle.std.specs.Prelude.{◌≡◌, ◌<◌, true, Some, None, if◌then◌else◌};
-ghost use Rattle.rv64_hart.specs.Access.{is_ram, is_aligned, word_of, instruction_at, load_result, store_mask, store_value, first_bit, load_width, store_width};
+ghost use Rattle.std.specs.Prelude.{◌≡◌, true, Some, None, if◌then◌else◌};
+ghost use Rattle.ras_bits.specs.Map.{is_ram, word_at};
+ghost use Rattle.rv64_hart.specs.Access.{is_aligned, instruction_at, load_result, store_mask, store_value, first_bit, load_width, store_width};
 
-use ras_bits::{get_field, sext};
+use ras_bits::{get_field, is_ram, sext, word_at};
 use rv64_decode::{LoadOp, StoreOp};
-
-/// The physical address of RAM's first byte.
-pub(crate) const RAM_START: u64 = 0x8000_0000;
 
 /// How many bytes an access takes: 1, 2, 4 or 8.
 #[derive(Clone, Copy)]
@@ -54,28 +52,12 @@ impl Width {
     }
 }
 
-/// Whether the byte at an address is in RAM.
-pub(crate) fn is_ram(words: u32, address: u64) -> bool
-    ensures { result ≡ is_ram words address }
-{
-    address >= RAM_START && (address - RAM_START) / 8 < u64::from(words)
-}
-
-/// The word of an address in RAM.
-pub(crate) fn word_index(words: u32, address: u64) -> u32
-    requires { is_ram words address ≡ true }
-    ensures word { result ≡ word_of address }
-    ensures there { result < words }
-{
-    ((address - RAM_START) / 8) as u32
-}
-
 /// The word of an address, where it is in RAM.
 pub(crate) fn ram_word(words: u32, address: u64) -> Option<u32>
-    ensures { result ≡ (if is_ram words address then Some (word_of address) else None) }
+    ensures { result ≡ (if is_ram words address then Some (word_at address) else None) }
 {
     if is_ram(words, address) {
-        Some(word_index(words, address))
+        Some(word_at(words, address))
     } else {
         None
     }
@@ -88,7 +70,7 @@ pub(crate) fn instruction_in(pc: u64, value: u64) -> u32
     if pc % 8 == 4 {
         (value >> 32) as u32
     } else {
-        (value & 0xFFFF_FFFF) as u32
+        get_field(value, 0, 32) as u32
     }
 }
 

@@ -1,14 +1,15 @@
 //! The bytes that a program has written.
 
 ghost use Rattle.std.specs.Prelude.{◌≡◌, ◌+◌, ◌≤◌, ◌++◌, [], length, IfOk, if◌then◌else◌};
-ghost use Rattle.rv64_hart.specs.Outcome.{has_room, console_room};
+ghost use Rattle.rv64_hart.specs.Outcome.{has_room};
+ghost use Rattle.rv64_hart.specs.declared.console.TheConstants.{CONSOLE_ROOM};
 
 use ras_bits::NoMemory;
 use std::alloc::Global;
 use std::marker::Model;
 
 /// How many bytes a console takes.
-pub(crate) const ROOM: usize = 1_048_576;
+pub(crate) const CONSOLE_ROOM: usize = 1_048_576;
 
 /// The bytes that a program has written, in order, with room for 1,048,576 of them.
 #[derive(Drop)]
@@ -17,14 +18,14 @@ pub struct Console {
 }
 
 impl Model for Console {
-    ghost use Rattle.rv64_hart.specs.declared.console.TheConstants.{ROOM};
+    ghost use Rattle.rv64_hart.specs.declared.console.TheConstants.{CONSOLE_ROOM};
     ghost use Rattle.std.specs.Prelude.{ℕ, List, ◌≤◌, vec_len, vec_capacity};
 
     ghost Value = { List ℕ };
 
     ghost view = { λ a. a.written.items };
 
-    ghost invariant = { λ a. (ROOM ≤ vec_capacity a.written) × (vec_len a.written ≤ ROOM) };
+    ghost invariant = { λ a. (CONSOLE_ROOM ≤ vec_capacity a.written) × (vec_len a.written ≤ CONSOLE_ROOM) };
 }
 
 impl Console {
@@ -34,7 +35,7 @@ impl Console {
     pub fn make(alloc: Global) -> Result<Console, NoMemory>
         ensures { IfOk result (λ console. console ≡ []) }
     {
-        let written = Vec::with_capacity(alloc, ROOM)?;
+        let written = Vec::with_capacity(alloc, CONSOLE_ROOM)?;
         Ok(Console { written })
     }
 
@@ -47,14 +48,14 @@ impl Console {
 
     /// How many bytes still fit.
     pub fn room(&self) -> usize
-        ensures { result + length self.now ≡ console_room }
+        ensures { result + length self.now ≡ CONSOLE_ROOM }
     {
-        ROOM - self.written.len()
+        CONSOLE_ROOM - self.written.len()
     }
 
     /// Writes bytes behind the others. They fit.
     pub fn push(&mut self, b: &[u8])
-        requires { length self.old + length b.now ≤ console_room }
+        requires { length self.old + length b.now ≤ CONSOLE_ROOM }
         ensures { self.new ≡ self.old ++ b.now }
     {
         let _ = self.written.extend_from_slice(b);

@@ -6,26 +6,27 @@ ghost use Rattle.std.specs.Int.{w64, to_le_bytes};
 ghost use Rattle.arrayvec.specs.ArrayVec.{array_vec_len};
 ghost use Rattle.poison_mem.specs.Asking.{play};
 ghost use Rattle.sbi_calls.specs.Span.{span_of};
+ghost use Rattle.sbi_calls.specs.declared.memory.TheConstants.{MOST_BYTES};
 ghost use Rattle.rv64_hart.specs.Outcome.{writing};
 ghost use Rattle.rv64_hart.specs.declared.firmware.SbiError.{SbiError};
 ghost use Rattle.rv64_hart.specs.Firmware.{answered, with_span, bytes_asked, asked_end, bytes_written, bytes_read, IsTouched};
 ghost use Rattle.rv64_hart.specs.Turn.{step_of};
 
-use crate::access::word_index;
 use crate::console::Console;
 use crate::ends::{TurnEnd, poisoned};
 use crate::firmware::SbiError;
 use crate::hart::Hart;
-use crate::parts::{behind, front, store_parts, words_of};
+use crate::parts::{behind, front, store_parts, words_touched};
 use arrayvec::ArrayVec;
 use poison_mem::{Bus, Cell, EventLog, UseKind};
+use ras_bits::word_at;
 use sbi_calls::{GuestStop, span};
 
 /// The bytes of the words that a console write touches: 4,096 bytes touch at most 513 words.
-type Bytes = ArrayVec<u8, 4104>;
+type SpanBytes = ArrayVec<u8, 4104>;
 
 /// Appends the eight bytes of a word, which fit.
-fn push_word(bytes: &mut Bytes, value: u64)
+fn push_word(bytes: &mut SpanBytes, value: u64)
     requires { array_vec_len bytes.old + 8 ≤ 4104 }
     ensures items { bytes.new.items ≡ bytes.old.items ++ to_le_bytes w64 value }
     ensures len { array_vec_len bytes.new ≡ array_vec_len bytes.old + 8 }
@@ -41,7 +42,7 @@ fn push_word(bytes: &mut Bytes, value: u64)
 fn read_words<B: Bus, G: EventLog>(
     w: u32,
     n: u32,
-    bytes: &mut Bytes,
+    bytes: &mut SpanBytes,
     bus: &mut B,
     log: &mut G,
 ) -> Option<u32>
@@ -100,7 +101,7 @@ impl Hart {
         con: &mut Console,
     ) -> TurnEnd
         requires bus { words ≡ B.meaning.words bus.old }
-        requires most { n ≤ 4096 }
+        requires most { n ≤ MOST_BYTES }
         requires in_ram { IsTouched words address n }
         ensures { step_of B.meaning G.logged (bytes_written self.old address n) self.old con.old bus.old log.old
             ≡ record { answer = result; hart = self.new; bus = bus.new; log = log.new; console = con.new } }
@@ -109,9 +110,9 @@ impl Hart {
             self.answer(SbiError::Success, 0);
             return TurnEnd::Went;
         }
-        let mut bytes = Bytes::new();
-        let w = word_index(words, address);
-        if let Some(w) = read_words(w, words_of(address, n), &mut bytes, bus, log) {
+        let mut bytes = SpanBytes::new();
+        let w = word_at(words, address);
+        if let Some(w) = read_words(w, words_touched(address, n), &mut bytes, bus, log) {
             return poisoned(w, UseKind::Sbi);
         }
         let written = front(behind(bytes.as_slice(), address % 8), n);
@@ -177,7 +178,7 @@ impl Hart {
         con: &mut Console,
     ) -> TurnEnd
         requires bus { words ≡ B.meaning.words bus.old }
-        requires most { n ≤ 4096 }
+        requires most { n ≤ MOST_BYTES }
         requires in_ram { IsTouched words address n }
         ensures { step_of B.meaning G.logged (bytes_read self.old input.now address n) self.old con.old bus.old log.old
             ≡ record { answer = result; hart = self.new; bus = bus.new; log = log.new; console = con.new } }

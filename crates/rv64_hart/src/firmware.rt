@@ -1,8 +1,8 @@
 //! Calls to the firmware (SBI specification).
 
 ghost use Rattle.std.specs.Prelude.{◌≡◌};
-ghost use Rattle.sbi_calls.specs.Calls.{reset_stop};
-ghost use Rattle.rv64_hart.specs.Firmware.{error_code, answered, answered_legacy, byte_taken, served, firmware_called, IsServed, ResetEnds};
+ghost use Rattle.sbi_calls.specs.Calls.{IsServed, reset_stop};
+ghost use Rattle.rv64_hart.specs.Firmware.{error_code, answered, answered_legacy, byte_taken, served, firmware_called, ResetEnds};
 ghost use Rattle.rv64_hart.specs.Turn.{step_of};
 
 use crate::console::Console;
@@ -80,7 +80,7 @@ impl Hart {
     }
 
     /// Serves the call that the registers ask for.
-    #[tactic(auto, using(crate::proofs::Calls::registers_served), unfolding(crate::specs::Firmware::firmware_called))]
+    #[tactic(auto, unfolding(crate::specs::Firmware::firmware_called))]
     pub(crate) fn call_firmware<B: Bus, G: EventLog>(
         &mut self,
         words: u32,

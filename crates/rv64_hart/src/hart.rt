@@ -1,7 +1,7 @@
 //! What a hart keeps between two steps.
 
 ghost use Rattle.std.specs.Prelude.{◌≡◌, ◌+◌, ◌<◌, ◌%◌, ◌^◌, Some, None};
-ghost use Rattle.rv64_csr.specs.File.{write_of};
+ghost use Rattle.rv64_csr.specs.Csrs.{write_of};
 ghost use Rattle.rv64_hart.specs.Firmware.{with_timer};
 ghost use Rattle.rv64_hart.specs.System.{trap_left};
 ghost use Rattle.rv64_hart.specs.State.{reset, register, with_register, with_pc, next_pc, retired, computed, passed};

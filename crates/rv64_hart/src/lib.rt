@@ -24,6 +24,3 @@ mod traps;
 pub use console::Console;
 pub use ends::TurnEnd;
 pub use hart::Hart;
-
-#[cfg(test)]
-mod tests;

@@ -2,14 +2,14 @@
 
 ghost use Rattle.std.specs.Prelude.{◌≡◌};
 ghost use Rattle.poison_mem.specs.Asking.{play};
-ghost use Rattle.sv39_walk.specs.Place.{left_of};
-ghost use Rattle.rv64_hart.specs.Translation.{walked, located, located_at, located_end, IsInRam};
+ghost use Rattle.sv39_walk.specs.Progress.{left_of};
+ghost use Rattle.rv64_hart.specs.Translation.{walked, located, located_at, located_end, IsFoundInRam};
 
-use crate::access::{is_ram, ram_word};
+use crate::access::ram_word;
 use crate::hart::Hart;
 use crate::traps::Exception;
 use poison_mem::{Bus, Cell, EventLog};
-use ras_bits::Access;
+use ras_bits::{Access, get_field, is_ram};
 use sv39_walk::{Walk, WalkStep};
 
 /// Where an access goes.
@@ -26,7 +26,7 @@ pub(crate) enum Located {
 /// An access at a physical address, which must be in RAM.
 fn at(words: u32, kind: Access, physical: u64) -> Located
     ensures value { located_at words kind physical ≡ result }
-    ensures in_ram { IsInRam words result }
+    ensures in_ram { IsFoundInRam words result }
 {
     if is_ram(words, physical) {
         Located::At(physical)
@@ -36,7 +36,7 @@ fn at(words: u32, kind: Access, physical: u64) -> Located
 }
 
 /// Follows a walk through page tables in RAM to its end.
-#[tactic(auto, using(crate::proofs::Walks::is_need, crate::proofs::Walks::walked_done, crate::proofs::Walks::walked_fault))]
+#[tactic(auto, using(crate::proofs::Walks::walked_done, crate::proofs::Walks::walked_fault))]
 fn follow<B: Bus, G: EventLog>(
     words: u32,
     kind: Access,
@@ -47,7 +47,7 @@ fn follow<B: Bus, G: EventLog>(
     requires { words ≡ B.meaning.words bus.old }
     ensures plays { play B.meaning G.logged (walked words kind (left_of start)) bus.old log.old ≡ located_end result bus.new log.new }
     ensures words { B.meaning.words bus.new ≡ B.meaning.words bus.old }
-    ensures in_ram { IsInRam words result }
+    ensures in_ram { IsFoundInRam words result }
 {
     let mut walk = start;
     'walk: loop {
@@ -69,6 +69,7 @@ fn follow<B: Bus, G: EventLog>(
 
 impl Hart {
     /// Where an access of this kind to a virtual address goes. The page-table entries on the way are read.
+    #[tactic(auto, unfolding(sv39_walk::specs::Walking::walk, crate::specs::Translation::walked))]
     pub(crate) fn locate<B: Bus, G: EventLog>(
         &self,
         words: u32,
@@ -80,17 +81,15 @@ impl Hart {
         requires { words ≡ B.meaning.words bus.old }
         ensures plays { play B.meaning G.logged (located words self.now kind address) bus.old log.old ≡ located_end result bus.new log.new }
         ensures words { B.meaning.words bus.new ≡ B.meaning.words bus.old }
-        ensures in_ram { IsInRam words result }
+        ensures in_ram { IsFoundInRam words result }
     {
         let csrs = self.csrs();
-        let walk = Walk::start(
-            csrs.satp(),
-            address,
-            kind,
-            self.mode(),
-            csrs.sum(),
-            csrs.mxr(),
-        );
+        let satp = csrs.satp();
+        // Without translation, as most programs run, no walk is made.
+        if get_field(satp, 60, 4) == 0 {
+            return at(words, kind, address);
+        }
+        let walk = Walk::start(satp, address, kind, self.mode(), csrs.sum(), csrs.mxr());
         follow(words, kind, walk, bus, log)
     }
 }

@@ -1,11 +1,12 @@
 //! Loads, stores and atomic operations (unprivileged manual, "Load and Store Instructions" and chapter "A").
 
 ghost use Rattle.std.specs.Prelude.{◌≡◌, ◌<◌, [], ◌∷◌, true};
-ghost use Rattle.rv64_hart.specs.Access.{is_ram, is_aligned, load_width, store_width};
+ghost use Rattle.ras_bits.specs.Map.{is_ram};
+ghost use Rattle.rv64_hart.specs.Access.{is_aligned, load_width, store_width};
 ghost use Rattle.rv64_hart.specs.Operations.{HasRegister, accessed, performed, loaded, reserved, conditionally_stored, exchanged, width_of, atomic_load as load_of, atomic_store as store_op, store_of};
 ghost use Rattle.rv64_hart.specs.Turn.{step_of, stored};
 
-use crate::access::{Width, loaded_value, stored_mask, stored_value, word_index};
+use crate::access::{Width, loaded_value, stored_mask, stored_value};
 use crate::console::Console;
 use crate::ends::{TurnEnd, poisoned};
 use crate::hart::Hart;
@@ -13,6 +14,7 @@ use crate::locate::Located;
 use crate::operation::{Operation, atomic_load, atomic_store};
 use crate::traps::Exception;
 use poison_mem::{Bus, Cell, EventLog, UseKind};
+use ras_bits::word_at;
 use rv64_alu::amo;
 use rv64_decode::{AmoOp, LoadOp, StoreOp};
 
@@ -115,8 +117,8 @@ impl Hart {
         ensures { step_of B.meaning G.logged (loaded self.old op rd address physical) self.old con.old bus.old log.old
             ≡ record { answer = result; hart = self.new; bus = bus.new; log = log.new; console = con.new } }
     {
-        match bus.read(word_index(words, physical), log) {
-            Cell::Poison => poisoned(word_index(words, physical), UseKind::Load),
+        match bus.read(word_at(words, physical), log) {
+            Cell::Poison => poisoned(word_at(words, physical), UseKind::Load),
             Cell::Good(value) => {
                 self.compute(rd, loaded_value(op, value, address));
                 TurnEnd::Went
@@ -144,8 +146,8 @@ impl Hart {
         ensures { step_of B.meaning G.logged (reserved self.old wide rd address physical) self.old con.old bus.old log.old
             ≡ record { answer = result; hart = self.new; bus = bus.new; log = log.new; console = con.new } }
     {
-        match bus.read(word_index(words, physical), log) {
-            Cell::Poison => poisoned(word_index(words, physical), UseKind::Amo),
+        match bus.read(word_at(words, physical), log) {
+            Cell::Poison => poisoned(word_at(words, physical), UseKind::Amo),
             Cell::Good(value) => {
                 self.reserve(physical, wide);
                 self.compute(rd, loaded_value(atomic_load(wide), value, address));
@@ -215,8 +217,8 @@ impl Hart {
         ensures { step_of B.meaning G.logged (exchanged self.old op wide rd operand address physical) self.old con.old bus.old log.old
             ≡ record { answer = result; hart = self.new; bus = bus.new; log = log.new; console = con.new } }
     {
-        match bus.read(word_index(words, physical), log) {
-            Cell::Poison => poisoned(word_index(words, physical), UseKind::Amo),
+        match bus.read(word_at(words, physical), log) {
+            Cell::Poison => poisoned(word_at(words, physical), UseKind::Amo),
             Cell::Good(word) => {
                 let old = loaded_value(atomic_load(wide), word, address);
                 let new = amo(op, old, operand, wide);
@@ -243,7 +245,7 @@ fn store<B: Bus, G: EventLog>(
     ensures { stored B.meaning G.logged (store_of op address physical value ∷ []) bus.old log.old ≡ (bus.new, log.new) }
 {
     bus.store(
-        word_index(words, physical),
+        word_at(words, physical),
         stored_value(address, value),
         stored_mask(Width::of_store(op), address),
         log,

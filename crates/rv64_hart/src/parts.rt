@@ -2,14 +2,13 @@
 
 ghost use Rattle.std.specs.Prelude.{◌≡◌, ◌+◌, ◌-◌, ◌*◌, ◌^◌, ◌<◌, ◌≤◌, [], ◌∷◌, length, take, drop};
 ghost use Rattle.ras_bits.specs.Fields.{number_at};
-ghost use Rattle.sbi_calls.specs.Span.{ram_base};
-ghost use Rattle.rv64_hart.specs.Access.{word_of};
-ghost use Rattle.rv64_hart.specs.Firmware.{words_of, part_of, part_stored, parts_stored, IsTouched};
+ghost use Rattle.ras_bits.specs.Map.{word_address, word_at};
+ghost use Rattle.sbi_calls.specs.declared.memory.TheConstants.{MOST_BYTES};
+ghost use Rattle.rv64_hart.specs.Firmware.{words_touched, part_of, part_stored, parts_stored, IsTouched};
 ghost use Rattle.rv64_hart.specs.Turn.{stored};
 
-use crate::access::{RAM_START, word_index};
 use poison_mem::{Bus, EventLog};
-use ras_bits::u64_at;
+use ras_bits::{u64_at, word_address, word_at};
 
 /// The little-endian number of at most eight bytes.
 fn number_of(bytes: &[u8]) -> u64
@@ -32,9 +31,9 @@ fn first_bytes(n: usize) -> u8
 }
 
 /// How many words hold `n` bytes from an address on. At most 4,096 bytes.
-pub(crate) fn words_of(address: u64, n: u64) -> u32
-    requires { n ≤ 4096 }
-    ensures { result ≡ words_of address n }
+pub(crate) fn words_touched(address: u64, n: u64) -> u32
+    requires { n ≤ MOST_BYTES }
+    ensures { result ≡ words_touched address n }
 {
     if n == 0 {
         0
@@ -46,13 +45,13 @@ pub(crate) fn words_of(address: u64, n: u64) -> u32
 /// Stores those of the bytes from `address` on that fall into word `w`.
 fn store_part<B: Bus, G: EventLog>(w: u32, address: u64, bytes: &[u8], bus: &mut B, log: &mut G)
     requires there { w < B.meaning.words bus.old }
-    requires starts { address < ram_base + 8 * w + 8 }
-    requires ends { ram_base + 8 * w < address + length bytes.now }
+    requires starts { address < word_address w + 8 }
+    requires ends { word_address w < address + length bytes.now }
     requires fits { address + length bytes.now < 2 ^ 64 }
     ensures stores { stored B.meaning G.logged (part_stored w (part_of address bytes.now w) ∷ []) bus.old log.old ≡ (bus.new, log.new) }
     ensures words { B.meaning.words bus.new ≡ B.meaning.words bus.old }
 {
-    let base = RAM_START + 8 * u64::from(w);
+    let base = word_address(w);
     let from = address.max(base);
     let to = (address + bytes.len() as u64).min(base + 8);
     let part = front(behind(bytes, from - address), to - from);
@@ -72,27 +71,27 @@ pub(crate) fn store_parts<B: Bus, G: EventLog>(
     log: &mut G,
 )
     requires bus { words ≡ B.meaning.words bus.old }
-    requires most { length bytes.now ≤ 4096 }
+    requires most { length bytes.now ≤ MOST_BYTES }
     requires in_ram { IsTouched words address (length bytes.now) }
-    ensures stores { stored B.meaning G.logged (parts_stored address bytes.now (word_of address) (words_of address (length bytes.now))) bus.old log.old ≡ (bus.new, log.new) }
+    ensures stores { stored B.meaning G.logged (parts_stored address bytes.now (word_at address) (words_touched address (length bytes.now))) bus.old log.old ≡ (bus.new, log.new) }
     ensures words { B.meaning.words bus.new ≡ B.meaning.words bus.old }
 {
     if bytes.is_empty() {
         return;
     }
-    let first = word_index(words, address);
-    let n = words_of(address, bytes.len() as u64);
+    let first = word_at(words, address);
+    let n = words_touched(address, bytes.len() as u64);
     for i in 0..n {
         store_part(first + i, address, bytes, bus, log);
     }
 }
 
-/// The bytes from a place on, none where it is at or past the end.
-pub(crate) fn behind(bytes: &[u8], place: u64) -> &[u8]
-    ensures { result.now ≡ drop place bytes.now }
+/// The bytes behind so many others, none where there are no more.
+pub(crate) fn behind(bytes: &[u8], others: u64) -> &[u8]
+    ensures { result.now ≡ drop others bytes.now }
 {
-    if place < bytes.len() as u64 {
-        &bytes[place as usize..]
+    if others < bytes.len() as u64 {
+        &bytes[others as usize..]
     } else {
         &[]
     }

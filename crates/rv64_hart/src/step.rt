@@ -2,10 +2,10 @@
 
 ghost use Rattle.std.specs.Prelude.{◌≡◌, ◌≢◌, ◌↔◌, ℕ, List, true};
 ghost use Rattle.poison_mem.specs.Asking.{bus_of, play, replies_of};
-ghost use Rattle.poison_mem.specs.Plays.{IsEndOf};
+ghost use Rattle.poison_mem.specs.Asking.{IsEndOf};
 ghost use Rattle.poison_mem.specs.declared.cell.UseKind.{UseKind};
-ghost use Rattle.rv64_decode.specs.Encoding.{InRange};
-ghost use Rattle.rv64_hart.specs.Access.{is_ram};
+ghost use Rattle.rv64_decode.specs.Encoding.{OperandsInRange};
+ghost use Rattle.ras_bits.specs.Map.{is_ram};
 ghost use Rattle.rv64_hart.specs.Outcome.{went};
 ghost use Rattle.rv64_hart.specs.State.{next_pc};
 ghost use Rattle.rv64_hart.specs.Stops.{LacksRoom};
@@ -16,7 +16,7 @@ ghost use Rattle.rv64_hart.specs.declared.ends.TurnEnd.TheVariants.{Went, Stop, 
 ghost use Rattle.sbi_calls.specs.declared.stop.GuestStop.{GuestStop};
 ghost use Rattle.sbi_calls.specs.declared.stop.GuestStop.TheVariants.{ConsoleFull};
 
-use crate::access::{instruction_in, word_index};
+use crate::access::instruction_in;
 use crate::console::Console;
 use crate::ends::{TurnEnd, poisoned};
 use crate::hart::Hart;
@@ -25,7 +25,7 @@ use crate::operands::{even, immediate, offset, upper_imm};
 use crate::operation::Operation;
 use crate::traps::Exception;
 use poison_mem::{Bus, Cell, EventLog, UseKind};
-use ras_bits::{Access, Mode};
+use ras_bits::{Access, Mode, word_at};
 use rv64_alu::{alu, alu_w, branch, muldiv};
 use rv64_decode::{Instr, decode};
 
@@ -118,8 +118,8 @@ impl Hart {
         ensures { step_of B.meaning G.logged (fetched_at words self.old now input.now (At physical)) self.old con.old bus.old log.old
             ≡ record { answer = result; hart = self.new; bus = bus.new; log = log.new; console = con.new } }
     {
-        match bus.read(word_index(words, physical), log) {
-            Cell::Poison => poisoned(word_index(words, physical), UseKind::Fetch),
+        match bus.read(word_at(words, physical), log) {
+            Cell::Poison => poisoned(word_at(words, physical), UseKind::Fetch),
             Cell::Good(value) => {
                 let word = instruction_in(self.pc(), value);
                 self.execute_word(words, now, input, word, bus, log, con)
@@ -160,7 +160,7 @@ impl Hart {
         con: &mut Console,
     ) -> TurnEnd
         requires bus { words ≡ B.meaning.words bus.old }
-        requires range { InRange instr }
+        requires range { OperandsInRange instr }
         ensures { step_of B.meaning G.logged (executed words self.old now input.now word instr) self.old con.old bus.old log.old
             ≡ record { answer = result; hart = self.new; bus = bus.new; log = log.new; console = con.new } }
     {
@@ -219,7 +219,7 @@ impl Hart {
     /// Does an instruction, of this word, that touches the hart alone.
     #[tactic(auto, unfolding(crate::specs::Turn::executed))]
     fn execute_alone(&mut self, now: u64, word: u32, instr: Instr)
-        requires range { InRange instr }
+        requires range { OperandsInRange instr }
         requires alone { IsAlone instr }
         ensures { (words : ℕ) (input : List ℕ) → executed words self.old now input word instr ≡ went self.new }
     {

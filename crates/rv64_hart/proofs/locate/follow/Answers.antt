@@ -1,5 +1,5 @@
 use Rattle.std.proofs.Common.{rules, ◌∙◌}
-use Rattle.sv39_walk.specs.Place.{left_of}
+use Rattle.sv39_walk.specs.Progress.{left_of}
 use Rattle.rv64_hart.proofs.Walks.{played_done, played_outside, played_poison, played_good}
 use Rattle.rv64_hart.proofs.locate.follow.Goals as goal
 

@@ -1,6 +1,6 @@
 use Rattle.std.proofs.Common.{◌≡◌}
 use Rattle.sv39_walk.specs.Walking.{needs}
-use Rattle.sv39_walk.specs.Place.{left_of}
+use Rattle.sv39_walk.specs.Progress.{left_of}
 use Rattle.poison_mem.specs.Asking.{play}
 use Rattle.rv64_hart.specs.Translation.{walked}
 use Rattle.rv64_hart.proofs.locate.follow.Given as goal

@@ -8,6 +8,6 @@ loop-i-preserved g c =
     record {
       left =
           c.loop-i.invariant.left
-          ∙ parts_next g.B.Bus.meaning g.G.EventLog.logged c.args.address c.args.bytes.now (c.word_index-first.result + i) (c.word_index-first.result + (i + 1)) (c.words_of-n.result - i) (c.words_of-n.result - (i + 1)) c.loop-i.bus _ c.loop-i.log _ (omega arith) (omega arith) c.store_part.ensures.stores;
+          ∙ parts_next g.B.Bus.meaning g.G.EventLog.logged c.args.address c.args.bytes.now (c.word_at-first.result + i) (c.word_at-first.result + (i + 1)) (c.words_touched-n.result - i) (c.words_touched-n.result - (i + 1)) c.loop-i.bus _ c.loop-i.log _ (omega arith) (omega arith) c.store_part.ensures.stores;
       words = search (rules, c.loop-i.invariant.words);
     }

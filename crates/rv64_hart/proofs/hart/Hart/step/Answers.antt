@@ -1,7 +1,7 @@
 use Rattle.std.proofs.Common.{◌∙◌, sym, ap}
-use Rattle.poison_mem.specs.Plays.{play_shows}
-use Rattle.rv64_hart.specs.Laws.{step_keeps_words}
-use Rattle.rv64_hart.specs.Bound.{turn_within}
+use Rattle.poison_mem.specs.AskingLaws.{play_shows}
+use Rattle.rv64_hart.specs.TurnLaws.{step_keeps_words}
+use Rattle.rv64_hart.specs.WithinLaws.{turn_within}
 use Rattle.rv64_hart.proofs.Stops.{instruction_caused}
 use Rattle.rv64_hart.proofs.hart.Hart.step.Goals as goal
 

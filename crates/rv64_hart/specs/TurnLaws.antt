@@ -1,16 +1,13 @@
--- Laws of steps.
-use Rattle.std.specs.Prelude.{◌≡◌, ℕ, List, [], ◌∷◌, ◌++◌, Bool, true, false, Option, if◌then◌else◌}
+-- A step keeps the number of words.
+use Rattle.std.specs.Prelude.{◌≡◌, ℕ, List, [], ◌∷◌, Bool, true, false}
 use Rattle.std.proofs.Common.{refl, ◌∙◌}
 use Rattle.poison_mem.specs.declared.event.Event.{Event}
 use Rattle.poison_mem.specs.Bus.{BusMeaning, KeepsWords, logged_all}
 use Rattle.poison_mem.specs.Asking.{Asking, Played, Ended, Poisoned, bus_of, play}
-use Rattle.poison_mem.specs.Plays.{play_keeps_words}
+use Rattle.poison_mem.specs.AskingLaws.{play_keeps_words}
 use Rattle.rv64_hart.specs.State.{ArchitecturalState}
 use Rattle.rv64_hart.specs.Outcome.{Outcome, End, Store, has_room}
-use Rattle.rv64_hart.specs.Turn.{Stepped, stored, finished, step_of, end_of}
-use Rattle.sbi_calls.specs.declared.stop.GuestStop.{GuestStop}
-use Rattle.sbi_calls.specs.declared.stop.GuestStop.TheVariants.{ConsoleFull}
-use Rattle.rv64_hart.specs.declared.ends.TurnEnd.TheVariants.{Stop}
+use Rattle.rv64_hart.specs.Turn.{stored, finished, step_of, ended_by}
 
 -- stores keep the number of words
 pub stored_keeps_words : {B L : Type 0} (bus : BusMeaning B) (logged : L → Event → L) (stores : List Store) (b : B) (log : L)
@@ -19,13 +16,6 @@ stored_keeps_words bus logged [] b log keeps = refl
 stored_keeps_words bus logged (s ∷ stores) b log keeps =
     stored_keeps_words bus logged stores (bus.store b s.w s.value s.mask).after (logged_all logged log (bus.store b s.w s.value s.mask).events) keeps
     ∙ keeps.store b s.w s.value s.mask
-
--- what an end leaves, by whether the console has room
-abbrev pub ended_by : {B L : Type 0} → BusMeaning B → (L → Event → L) → ArchitecturalState → List ℕ → ArchitecturalState → List Store → List ℕ → Option GuestStop → B → L → Bool → Stepped B L
-ended_by bus logged h console after stores bytes stop b log fits =
-    if fits
-    then record { answer = end_of stop; hart = after; bus = (stored bus logged stores b log).0; log = (stored bus logged stores b log).1; console = console ++ bytes }
-    else record { answer = Stop ConsoleFull; hart = h; bus = b; log = log; console = console }
 
 finished_keeps_words : {B L : Type 0} (bus : BusMeaning B) (logged : L → Event → L) (h : ArchitecturalState) (console : List ℕ) (P : Played Outcome B L)
     → KeepsWords bus → bus.words (finished bus logged h console P).bus ≡ bus.words (bus_of P)
