@@ -4,11 +4,12 @@ use Rattle.std.proofs.lemmas.List.{append-nil}
 use Rattle.std.proofs.Math.ListN.{drop_of_length-le}
 use Rattle.std.specs.Prelude.{if◌then◌else◌}
 use Rattle.std.specs.List.{find, flat_map, range_with_len}
+use Rattle.ras_bits.specs.Results.{◌>>=◌}
 use Rattle.byte_fields.specs.Fields.{with_fields, little, zeros}
-use Rattle.byte_fields.specs.Laws.{with_fields_behind}
+use Rattle.byte_fields.specs.FieldsLaws.{with_fields_behind}
 use Rattle.acpi_tables.specs.declared.blocks.Entry.{Entry}
 use Rattle.acpi_tables.specs.Layout.{block_bytes, entry_fields, entry_bytes}
-use Rattle.acpi_tables.specs.Reading.{entry_end, entry_place, is_past, refused_at, section_at, ◌>>=◌}
+use Rattle.acpi_tables.specs.Reading.{entry_end, entry_start, is_past, refused_at, entry_section}
 use Rattle.acpi_tables.specs.declared.refused.TableRefused.{TableRefused}
 use Rattle.acpi_tables.specs.declared.refused.TableRefused.TheVariants as refused
 use Rattle.arrayvec.specs.ArrayVec.{ArrayVec}
@@ -31,23 +32,23 @@ entry_written out entries i e lt is =
 abbrev pub entries_from : ℕ → List ℕ → ℕ → List SectionAt → ℕ → ℕ → Result (ArrayVec SectionAt) TableRefused
 entries_from end b count taken i left =
     refused_at refused.Entry (find (is_past end b) (range_with_len i left))
-    >>= λ inside. if entry_place b count == end then Ok (record { items = taken ++ map (λ k. section_at b (entry_place b k)) (range_with_len i left) })
+    >>= λ inside. if entry_start b count == end then Ok (record { items = taken ++ map (λ k. entry_section b (entry_start b k)) (range_with_len i left) })
     else Err refused.Length
 
 -- one entry is read, and the next is looked at
-pub entry_read : (end : ℕ) (b : List ℕ) (count : ℕ) (taken : List SectionAt) (i left at : ℕ) → 0 < left → at ≡ entry_place b i → entry_end b at ≤ end
-    → entries_from end b count taken i left ≡ entries_from end b count (taken ++ section_at b at ∷ []) (i + 1) (left - 1)
+pub entry_read : (end : ℕ) (b : List ℕ) (count : ℕ) (taken : List SectionAt) (i left at : ℕ) → 0 < left → at ≡ entry_start b i → entry_end b at ≤ end
+    → entries_from end b count taken i left ≡ entries_from end b count (taken ++ entry_section b at ∷ []) (i + 1) (left - 1)
 entry_read end b count taken i zero at some place whole = absurd (omega arith)
 entry_read end b count taken i (suc left) at some place whole =
     let less : suc left - 1 ≡ left = omega arith in
-    let inside : entry_end b (entry_place b i) ≤ end = omega (arith, ap (entry_end b) place) in
+    let inside : entry_end b (entry_start b i) ≤ end = omega (arith, ap (entry_end b) place) in
     rw (place, less, le-ltb _ _ inside)
-    (ap (λ (xs : List SectionAt). refused_at refused.Entry (find (is_past end b) (range_with_len (i + 1) left)) >>= λ p. if entry_place b count == end then Ok (record { items = xs }) else Err refused.Length)
-    (sym (append_assoc taken (section_at b (entry_place b i) ∷ []) (map (λ k. section_at b (entry_place b k)) (range_with_len (i + 1) left)))))
+    (ap (λ (xs : List SectionAt). refused_at refused.Entry (find (is_past end b) (range_with_len (i + 1) left)) >>= λ p. if entry_start b count == end then Ok (record { items = xs }) else Err refused.Length)
+    (sym (append_assoc taken (entry_section b (entry_start b i) ∷ []) (map (λ k. entry_section b (entry_start b k)) (range_with_len (i + 1) left)))))
 
 -- the next entry stands where this one ends
-pub next_place : (b : List ℕ) (i at : ℕ) → at ≡ entry_place b i → entry_end b at ≡ entry_place b (i + 1)
-next_place b i at place = ap (entry_end b) place ∙ ap (entry_place b) (sym (add-one i))
+pub next_start : (b : List ℕ) (i at : ℕ) → at ≡ entry_start b i → entry_end b at ≡ entry_start b (i + 1)
+next_start b i at place = ap (entry_end b) place ∙ ap (entry_start b) (sym (add-one i))
 
 -- with no entry left the block is whole
 pub all_written : (out whole : List ℕ) (entries : List Entry) (i : ℕ) → length entries ≤ i → out ++ flat_map entry_bytes (drop i entries) ≡ whole → out ≡ whole

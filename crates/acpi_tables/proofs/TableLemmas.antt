@@ -5,7 +5,7 @@ use Rattle.std.specs.List.{find, range_with_len}
 use Rattle.ras_bits.specs.Fields.{number_at}
 use Rattle.byte_fields.specs.Fields.{little, zeros}
 use Rattle.acpi_tables.specs.Layout.{SumsToZero, hest_bytes, bert_bytes, generic_source}
-use Rattle.acpi_tables.specs.Reading.{is_other_source, refused_at, source_place}
+use Rattle.acpi_tables.specs.Reading.{is_other_source, refused_at, source_start}
 use Rattle.acpi_tables.specs.declared.refused.TableRefused.{TableRefused}
 use Rattle.acpi_tables.specs.declared.refused.TableRefused.TheVariants as refused
 
@@ -22,7 +22,7 @@ abbrev pub sources_from : ℕ → List ℕ → ℕ → ℕ → Result (Unit {0})
 sources_from end b i left = refused_at refused.Source (find (is_other_source end b) (range_with_len i left))
 
 -- one source is looked at, and then the next
-pub source_read : (end : ℕ) (b : List ℕ) (i left : ℕ) → 0 < left → source_place i + 64 ≤ end → number_at 2 (source_place i) b ≡ generic_source
+pub source_read : (end : ℕ) (b : List ℕ) (i left : ℕ) → 0 < left → source_start i + 64 ≤ end → number_at 2 (source_start i) b ≡ generic_source
     → sources_from end b i left ≡ sources_from end b (i + 1) (left - 1)
 source_read end b i zero some whole kind = absurd (omega arith)
 source_read end b i (suc left) some whole kind =

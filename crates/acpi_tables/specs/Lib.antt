@@ -1,4 +1,3 @@
 pub mod Layout
 pub mod Reading
 pub mod Written
-pub mod Offsets

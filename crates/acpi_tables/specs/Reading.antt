@@ -3,6 +3,7 @@ use Rattle.std.specs.Prelude.{ℕ, zero, suc, ◌+◌, ◌*◌, ◌%◌, Bool, n
 use Rattle.std.specs.List.{find, range_with_len}
 use Rattle.arrayvec.specs.ArrayVec.{ArrayVec}
 use Rattle.ras_bits.specs.Fields.{field, number_at}
+use Rattle.ras_bits.specs.Results.{◌>>=◌}
 use Rattle.ras_bits.specs.declared.terms.SectionAt.{SectionAt}
 use Rattle.byte_fields.specs.Fields.{bytes_at}
 use Rattle.acpi_tables.specs.Layout.{block_header_length, bert_length, entry_header_length, generic_source, least_hest}
@@ -11,11 +12,6 @@ use Rattle.acpi_tables.specs.declared.refused.TableRefused.TheVariants as refuse
 use Rattle.acpi_tables.specs.declared.table_reading.HestView.{HestView}
 use Rattle.acpi_tables.specs.declared.table_reading.BertView.{BertView}
 use Rattle.acpi_tables.specs.declared.block_reading.BlockView.{BlockView}
-
-infixl 10 ◌>>=◌
-abbrev pub ◌>>=◌ : {A B : Type 0} → Result A TableRefused → (A → Result B TableRefused) → Result B TableRefused
-(Ok x) >>= f = f x
-(Err e) >>= f = Err e
 
 -- the first of some numbers that was found is refused
 abbrev pub refused_at : (ℕ → TableRefused) → Option ℕ → Result (Unit {0}) TableRefused
@@ -28,6 +24,7 @@ refused_at refusal (Some i) = Err (refusal i)
 abbrev pub signature_of : List ℕ → ℕ
 signature_of b = number_at 4 0 b
 
+-- the length that a table says it has
 abbrev pub table_length : List ℕ → ℕ
 table_length b = number_at 4 4 b
 
@@ -42,27 +39,30 @@ table_of signature least b =
     else if not (sum (take (table_length b) b) % 256 == 0) then Err refused.Sum
     else Ok (table_length b)
 
--- HEST's Error Source Count, and the place of source i
+-- HEST's Error Source Count, and where source i begins
 abbrev pub source_count : List ℕ → ℕ
 source_count b = number_at 4 36 b
 
-abbrev pub source_place : ℕ → ℕ
-source_place i = least_hest + 64 * i
+-- where source i of a HEST begins
+abbrev pub source_start : ℕ → ℕ
+source_start i = least_hest + 64 * i
 
 -- source i passes the table's end or has another type
 abbrev pub is_other_source : ℕ → List ℕ → ℕ → Bool
-is_other_source end b i = nat_lt end (source_place i + 64) || not (number_at 2 (source_place i) b == generic_source)
+is_other_source end b i = nat_lt end (source_start i + 64) || not (number_at 2 (source_start i) b == generic_source)
 
 -- the first of so many sources that passes the table's end or has another type is refused
 abbrev pub sources_in : ℕ → List ℕ → ℕ → Result (Unit {0}) TableRefused
 sources_in end b count = refused_at refused.Source (find (is_other_source end b) (range_with_len 0 count))
 
+-- a HEST, or the first rule that it breaks
 unfoldable pub hest_of : List ℕ → Result HestView TableRefused
 hest_of b = do
   end ← table_of (codes "HEST") least_hest b
   sources ← sources_in end b (source_count b)
   Ok (record { sources = source_count b })
 
+-- a BERT, or the first rule that it breaks
 unfoldable pub bert_of : List ℕ → Result BertView TableRefused
 bert_of b = do
   end ← table_of (codes "BERT") bert_length b
@@ -74,46 +74,49 @@ bert_of b = do
 abbrev pub block_data_length : List ℕ → ℕ
 block_data_length b = number_at 4 12 b
 
+-- the number of entries that a block's status says it has
 abbrev pub entry_count : List ℕ → ℕ
 entry_count b = field (number_at 4 0 b) 4 10
 
--- of the entry at a place: Error Data Length, and the place behind its section
-abbrev pub section_length : List ℕ → ℕ → ℕ
-section_length b at = number_at 4 (at + 24) b
+-- of the entry from an offset on: Error Data Length, and where its section ends
+abbrev pub entry_section_length : List ℕ → ℕ → ℕ
+entry_section_length b at = number_at 4 (at + 24) b
 
+-- where an entry ends
 abbrev pub entry_end : List ℕ → ℕ → ℕ
-entry_end b at = at + entry_header_length + section_length b at
+entry_end b at = at + entry_header_length + entry_section_length b at
 
 -- the FRU Text, where its bit of Validation Bits is set
-abbrev pub fru_at : List ℕ → ℕ → Option (List ℕ)
-fru_at b at = if field (number_at 1 (at + 22) b) 1 1 == 1 then Some (bytes_at 20 (at + 44) b) else None
+abbrev pub entry_fru : List ℕ → ℕ → Option (List ℕ)
+entry_fru b at = if field (number_at 1 (at + 22) b) 1 1 == 1 then Some (bytes_at 20 (at + 44) b) else None
 
--- the section of the entry at a place
-unfoldable pub section_at : List ℕ → ℕ → SectionAt
-section_at b at = record {
+-- the section of the entry from an offset on
+unfoldable pub entry_section : List ℕ → ℕ → SectionAt
+entry_section b at = record {
   kind = bytes_at 16 at b;
   start = at + entry_header_length;
-  length = section_length b at;
+  length = entry_section_length b at;
   severity = number_at 4 (at + 16) b;
-  fru = fru_at b at;
+  fru = entry_fru b at;
 }
 
--- the place of entry i: the first stands behind the header, and each of the others where the one before it ends
-abbrev pub entry_place : List ℕ → ℕ → ℕ
-entry_place b zero = block_header_length
-entry_place b (suc i) = entry_end b (entry_place b i)
+-- where entry i begins: the first behind the header, and each of the others where the one before it ends
+abbrev pub entry_start : List ℕ → ℕ → ℕ
+entry_start b zero = block_header_length
+entry_start b (suc i) = entry_end b (entry_start b i)
 
 -- entry i ends behind the data
 abbrev pub is_past : ℕ → List ℕ → ℕ → Bool
-is_past end b i = nat_lt end (entry_end b (entry_place b i))
+is_past end b i = nat_lt end (entry_end b (entry_start b i))
 
 -- the sections of so many entries in their order, where no entry passes the end of the data and the last one ends there
 abbrev pub entries_in : ℕ → List ℕ → ℕ → Result (ArrayVec SectionAt) TableRefused
 entries_in end b count = do
   inside ← refused_at refused.Entry (find (is_past end b) (range_with_len 0 count))
-  if entry_place b count == end then Ok (record { items = map (λ i. section_at b (entry_place b i)) (range_with_len 0 count) })
+  if entry_start b count == end then Ok (record { items = map (λ i. entry_section b (entry_start b i)) (range_with_len 0 count) })
       else Err refused.Length
 
+-- a status block, or the first rule that it breaks
 unfoldable pub block_of : List ℕ → Result BlockView TableRefused
 block_of b =
     if nat_lt (length b) block_header_length then Err refused.Short

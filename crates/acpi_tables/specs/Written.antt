@@ -12,7 +12,7 @@ pub record IsEntry (e : Entry) : Type 0 where
   pub fru : length e.fru ≡ 20
   pub body : length e.body.items < 2 ^ 32
 
--- the section of an entry that stands at a place
+-- the section of an entry that begins at an offset
 abbrev pub section_of : ℕ → Entry → SectionAt
 section_of at e = record {
   kind = e.kind;
@@ -22,15 +22,15 @@ section_of at e = record {
   fru = Some e.fru;
 }
 
--- the sections of entries, the first of which stands at a place
-abbrev pub sections_of : ℕ → List Entry → List SectionAt
-sections_of at [] = []
-sections_of at (e ∷ entries) = section_of at e ∷ sections_of (at + entry_length e) entries
+-- the sections of entries, the first of which begins at an offset
+abbrev pub block_sections : ℕ → List Entry → List SectionAt
+block_sections at [] = []
+block_sections at (e ∷ entries) = section_of at e ∷ block_sections (at + entry_length e) entries
 
 -- what the block of these entries says
-abbrev pub view_of : List Entry → BlockView
-view_of entries = record {
+abbrev pub block_view : List Entry → BlockView
+block_view entries = record {
   status = block_status entries;
   severity = worst_severity entries;
-  entries = record { items = sections_of block_header_length entries };
+  entries = record { items = block_sections block_header_length entries };
 }

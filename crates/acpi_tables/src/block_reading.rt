@@ -1,9 +1,9 @@
 //! Status blocks, read back.
 
 ghost use Rattle.std.specs.Prelude.{◌≡◌, ◌+◌, ◌≤◌, ◌<◌, ◌^◌, length};
-ghost use Rattle.acpi_tables.specs.Reading.{block_of, entries_in, section_at};
+ghost use Rattle.acpi_tables.specs.Reading.{block_of, entries_in, entry_section};
 
-use crate::blocks::{ENTRY_LENGTH, HEADER_LENGTH};
+use crate::blocks::{BLOCK_HEADER_LENGTH, ENTRY_HEADER_LENGTH};
 use crate::refused::TableRefused;
 use arrayvec::ArrayVec;
 use byte_fields::{array_at, u8_at};
@@ -17,7 +17,7 @@ pub struct BlockView {
     pub status: u32,
     /// The severity of the block.
     pub severity: u32,
-    /// The sections, in the order of the entries; their places count from the block's first byte.
+    /// The sections, in the order of the entries; their offsets count from the block's first byte.
     pub entries: ArrayVec<SectionAt, 16>,
 }
 
@@ -27,11 +27,11 @@ pub fn read_block(b: &[u8]) -> Result<BlockView, TableRefused>
     requires { length b.now < 2 ^ 32 }
     ensures { result ≡ block_of b.now }
 {
-    if b.len() < HEADER_LENGTH {
+    if b.len() < BLOCK_HEADER_LENGTH {
         return Err(TableRefused::Short);
     }
     let status = u32_at(b, 0);
-    let end = HEADER_LENGTH + u32_at(b, 12) as usize;
+    let end = BLOCK_HEADER_LENGTH + u32_at(b, 12) as usize;
     let count = get_field(u64::from(status), 4, 10) as u32;
     if b.len() < end || count > 16 {
         return Err(TableRefused::Length);
@@ -49,20 +49,20 @@ fn read_entries(end: usize, b: &[u8], count: u32) -> Result<ArrayVec<SectionAt, 
     requires few { count ≤ 16 }
     requires data { 20 ≤ end }
     requires there { end ≤ length b.now }
-    requires places { length b.now < 2 ^ 32 }
+    requires offsets { length b.now < 2 ^ 32 }
     ensures { result ≡ entries_in end b.now count }
 {
     let mut entries = ArrayVec::new();
-    let mut at = HEADER_LENGTH;
+    let mut at = BLOCK_HEADER_LENGTH;
     for i in 0..count {
-        if end < at + ENTRY_LENGTH {
+        if end < at + ENTRY_HEADER_LENGTH {
             return Err(TableRefused::Entry(i));
         }
-        let entry_end = at + ENTRY_LENGTH + u32_at(b, at + 24) as usize;
+        let entry_end = at + ENTRY_HEADER_LENGTH + u32_at(b, at + 24) as usize;
         if end < entry_end {
             return Err(TableRefused::Entry(i));
         }
-        entries.push(section_at(b, at));
+        entries.push(entry_section(b, at));
         at = entry_end;
     }
     if at != end {
@@ -71,17 +71,17 @@ fn read_entries(end: usize, b: &[u8], count: u32) -> Result<ArrayVec<SectionAt, 
     Ok(entries)
 }
 
-// The section of the entry at a place.
-#[tactic(auto, unfolding(crate::specs::Reading::section_at))]
-fn section_at(b: &[u8], at: usize) -> SectionAt
+// The section of the entry from an offset on.
+#[tactic(auto, unfolding(crate::specs::Reading::entry_section))]
+fn entry_section(b: &[u8], at: usize) -> SectionAt
     requires there { at + 72 ≤ length b.now }
-    requires places { length b.now < 2 ^ 32 }
-    ensures { result ≡ section_at b.now at }
+    requires offsets { length b.now < 2 ^ 32 }
+    ensures { result ≡ entry_section b.now at }
 {
     let has_fru = get_field(u64::from(u8_at(b, at + 22)), 1, 1) == 1;
     SectionAt {
         kind: array_at(b, at),
-        start: (at + ENTRY_LENGTH) as u32,
+        start: (at + ENTRY_HEADER_LENGTH) as u32,
         length: u32_at(b, at + 24),
         severity: u32_at(b, at + 16),
         fru: if has_fru {

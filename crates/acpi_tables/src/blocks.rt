@@ -5,15 +5,15 @@ ghost use Rattle.arrayvec.specs.ArrayVec.{array_vec_len};
 ghost use Rattle.byte_fields.specs.Fields.{joined, with_fields, zeros};
 ghost use Rattle.acpi_tables.specs.Layout.{block_bytes, block_header, block_status, count_of, data_length, entry_fields, worst_severity};
 ghost use Rattle.acpi_tables.specs.Reading.{block_of};
-ghost use Rattle.acpi_tables.specs.Written.{IsEntry, view_of};
+ghost use Rattle.acpi_tables.specs.Written.{IsEntry, block_view};
 
 use arrayvec::ArrayVec;
 use byte_fields::{push_bytes, push_u8, push_u16, push_u32, push_zeros};
 
 /// The length of a block's header, and of what stands before an entry's section, in bytes.
-pub(crate) const HEADER_LENGTH: usize = 20;
+pub(crate) const BLOCK_HEADER_LENGTH: usize = 20;
 
-pub(crate) const ENTRY_LENGTH: usize = 72;
+pub(crate) const ENTRY_HEADER_LENGTH: usize = 72;
 
 /// An entry of a status block (ACPI, "Generic Error Data Entry"), with its section.
 #[derive(Default, Drop)]
@@ -35,14 +35,14 @@ pub fn status_block(entries: &[Entry], out: &mut ArrayVec<u8, 2048>)
     requires { length entries.now ≤ 5 }
     ensures bytes { out.new.items ≡ block_bytes entries.now }
     ensures empty { entries.now ≡ [] → out.new.items ≡ zeros 20 }
-    ensures reads_back { (rest : List ℕ) → block_of (out.new.items ++ rest) ≡ Ok (view_of entries.now) }
+    ensures reads_back { (rest : List ℕ) → block_of (out.new.items ++ rest) ≡ Ok (block_view entries.now) }
 {
     out.clear();
     push_u32(out, status_of(entries));
     push_u32(out, 0);
     push_u32(out, 0);
     push_u32(out, length_of(entries));
-    push_u32(out, severity_of(entries));
+    push_u32(out, worst_severity(entries));
     for entry in entries {
         push_entry(out, entry);
     }
@@ -92,7 +92,7 @@ fn status_of(entries: &[Entry]) -> u32
         + 16 * entries.len() as u32
 }
 
-fn severity_of(entries: &[Entry]) -> u32
+fn worst_severity(entries: &[Entry]) -> u32
     ensures { result ≡ worst_severity entries.now }
 {
     if count_of(1, entries) > 0 {
@@ -113,7 +113,7 @@ fn length_of(entries: &[Entry]) -> u32
 {
     let mut total = 0;
     for entry in entries {
-        total += (ENTRY_LENGTH + entry.body.len()) as u32;
+        total += (ENTRY_HEADER_LENGTH + entry.body.len()) as u32;
     }
     total
 }

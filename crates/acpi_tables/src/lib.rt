@@ -9,8 +9,6 @@ mod blocks;
 mod refused;
 mod table_reading;
 mod tables;
-#[cfg(test)]
-mod tests;
 
 pub use block_reading::{BlockView, read_block};
 pub use blocks::{Entry, status_block};

@@ -28,7 +28,7 @@ pub struct BertView {
 }
 
 /// Reads the Hardware Error Source Table at the front (ACPI, "Hardware Error Source Table"), all of whose sources are
-/// generic. Bytes behind the last source are passed over.
+/// generic. Bytes behind the last source are ignored.
 #[tactic(auto, unfolding(crate::specs::Reading::hest_of))]
 pub fn read_hest(b: &[u8]) -> Result<HestView, TableRefused>
     ensures { result ≡ hest_of b.now }

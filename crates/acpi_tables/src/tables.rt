@@ -8,6 +8,7 @@ ghost use Rattle.acpi_tables.specs.Reading.{bert_of, hest_of};
 
 use arrayvec::ArrayVec;
 use byte_fields::{push_bytes, push_u8, push_u16, push_u32, push_u64, push_zeros};
+use ras_bits::{BOOT_REGION_LENGTH, BOOT_REGION_START, POLLED_BLOCK_LENGTH, POLLED_POINTER};
 
 const HEST_LENGTH: u32 = 104;
 
@@ -15,8 +16,14 @@ pub(crate) const BERT_LENGTH: u32 = 48;
 
 pub(crate) const GENERIC_SOURCE: u16 = 9;
 
+// What stands for no related source.
+const NO_RELATED_SOURCE: u16 = 0xFFFF;
+
+// How often the polled block is looked at, in milliseconds.
+pub(crate) const POLL_MILLISECONDS: u32 = 1000;
+
 /// The Hardware Error Source Table: one generic source, whose status block is polled each second. Its
-/// address stands at 0x40000200.
+/// address stands at `POLLED_POINTER`.
 pub fn hest() -> [u8; 104]
     ensures bytes { result ≡ hest_bytes }
     ensures checked { SumsToZero result }
@@ -25,11 +32,11 @@ pub fn hest() -> [u8; 104]
     hest_with(checksum_over(&hest_with(0)))
 }
 
-/// The Boot Error Record Table: a region of 4,096 bytes at 0x40001000.
+/// The Boot Error Record Table: a region of `BOOT_REGION_LENGTH` bytes from `BOOT_REGION_START` on.
 pub fn bert() -> [u8; 48]
     ensures bytes { result ≡ bert_bytes }
     ensures checked { SumsToZero result }
-    ensures reads_back { (rest : List ℕ) → bert_of (result ++ rest) ≡ Ok (record { length = 4096; address = 0x40001000 }) }
+    ensures reads_back { (rest : List ℕ) → bert_of (result ++ rest) ≡ Ok (record { length = BOOT_REGION_LENGTH; address = BOOT_REGION_START }) }
 {
     bert_with(checksum_over(&bert_with(0)))
 }
@@ -49,8 +56,8 @@ fn bert_with(checksum: u8) -> [u8; 48]
 {
     let mut table = ArrayVec::<u8, 48>::new();
     push_header(&mut table, b"BERT", BERT_LENGTH, checksum);
-    push_u32(&mut table, 4096);
-    push_u64(&mut table, 0x4000_1000);
+    push_u32(&mut table, BOOT_REGION_LENGTH);
+    push_u64(&mut table, BOOT_REGION_START);
     table.into_inner().unwrap()
 }
 
@@ -82,15 +89,15 @@ fn push_source<const N: usize>(table: &mut ArrayVec<u8, N>)
 {
     push_u16(table, GENERIC_SOURCE);
     push_u16(table, 0);
-    push_u16(table, 0xFFFF);
+    push_u16(table, NO_RELATED_SOURCE);
     push_u8(table, 0);
     push_u8(table, 1);
     push_u32(table, 1);
     push_u32(table, 5);
     push_u32(table, 0);
-    push_address(table, 0x4000_0200);
-    push_notification(table, 1000);
-    push_u32(table, 2048);
+    push_address(table, POLLED_POINTER);
+    push_notification(table, POLL_MILLISECONDS);
+    push_u32(table, POLLED_BLOCK_LENGTH);
 }
 
 fn push_address<const N: usize>(table: &mut ArrayVec<u8, N>, address: u64)

@@ -1,4 +1,4 @@
--- Formats as lists of fields, each at its offset.
+-- Formats as lists of fields, each at its offset (numbers are little-endian, as in ACPI and UEFI).
 use Rattle.byteorder.specs.Endian.{little_bytes}
 use Rattle.std.specs.Prelude.{◌≡◌, ℕ, ◌+◌, Bool, true, ◌&&◌, ◌==◌, List, [], ◌∷◌, ◌++◌, length, take, drop, replicate}
 
@@ -10,7 +10,7 @@ little width value = little_bytes width value
 unfoldable pub zeros : ℕ → List ℕ
 zeros n = replicate n 0
 
--- the n bytes from place `at` on
+-- the n bytes from offset `at` on
 unfoldable pub bytes_at : ℕ → ℕ → List ℕ → List ℕ
 bytes_at n at b = take n (drop at b)
 
@@ -27,13 +27,13 @@ pub record Field : Type 0 where
   pub content : Content
 
 -- a field of a format, as a line of a standard's table
-abbrev pub field : ℕ → ℕ → Content → Field
-field offset width content = record { offset = offset; width = width; content = content }
+abbrev pub byte_field : ℕ → ℕ → Content → Field
+byte_field offset width content = record { offset = offset; width = width; content = content }
 
 -- the fields of a part of a format, whose own offsets count from the part's first byte
-abbrev pub moved : ℕ → List Field → List Field
-moved start [] = []
-moved start (f ∷ fs) = field (start + f.offset) f.width f.content ∷ moved start fs
+abbrev pub shifted : ℕ → List Field → List Field
+shifted start [] = []
+shifted start (f ∷ fs) = byte_field (start + f.offset) f.width f.content ∷ shifted start fs
 
 -- what a field holds, as bytes
 abbrev pub content_bytes : ℕ → Content → List ℕ
@@ -71,7 +71,8 @@ abbrev pub HaveWidths : List Field → Type 0
 HaveWidths [] = Unit {0}
 HaveWidths (f ∷ fs) = HasWidth f.width f.content (HaveWidths fs)
 
--- each field begins where the one before it ends, the first at 0, and the last ends at the length
-pub record IsLaidOut (fs : List Field) (len : ℕ) : Type 0 where
-  pub begins : begin_from 0 fs ≡ true
-  pub ends : end_from 0 fs ≡ len
+-- bytes at the offset of field k: its own, and others behind them
+pub record StandsAt (whole : List ℕ) (f : Field) : Type 0 where
+  pub own : length (content_bytes f.width f.content) ≡ f.width
+  pub behind : List ℕ
+  pub there : drop f.offset whole ≡ content_bytes f.width f.content ++ behind

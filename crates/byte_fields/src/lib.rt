@@ -4,8 +4,6 @@
 #![tactic(auto)]
 
 mod reading;
-#[cfg(test)]
-mod tests;
 mod writing;
 
 pub use reading::{array_at, u8_at};

@@ -5,12 +5,12 @@ use Rattle.std.proofs.lemmas.Bool.{le-ltb, eq-eqb, ne_eqb, le-leb}
 use Rattle.std.proofs.lemmas.List.{length-append}
 use Rattle.ras_bits.specs.Fields.{number_at}
 use Rattle.ras_bits.specs.declared.terms.SectionAt.{SectionAt}
-use Rattle.byte_fields.specs.Fields.{bytes_at, joined, field, Field, Number, Bytes, HaveWidths}
-use Rattle.byte_fields.specs.Laws.{number_back, bytes_back, length_with, bytes_as_number}
+use Rattle.byte_fields.specs.Fields.{bytes_at, joined, byte_field, Field, Number, Bytes, HaveWidths}
+use Rattle.byte_fields.specs.FieldsLaws.{number_back, bytes_back, length_with, bytes_as_number}
 use Rattle.poison_mem.specs.declared.event.Class.{Class}
 use Rattle.poison_mem.specs.declared.event.Class.TheVariants.{Corrected, Deferred, Critical}
 use Rattle.poison_mem.specs.declared.event.RecordView.{RecordView}
-use Rattle.cper_sections.specs.Layout.{fru_text, memory_section_length, memory_section_type, processor_section_length, processor_section_type, record_front, severity_of}
+use Rattle.cper_sections.specs.Layout.{fru_text, memory_section_length, memory_section_type, processor_section_length, processor_section_type, record_front, severity_of, end_mark}
 use Rattle.cper_sections.specs.Written.{cper_of, cper_with}
 use Rattle.cper_sections.specs.Reading.{header_kept, is_in_place, record_length, record_of, section_at, section_count, sections_of, signature_end, signature_start}
 use Rattle.cper_sections.proofs.SectionLemmas.{section_read, sections_from}
@@ -20,7 +20,7 @@ severity_small Corrected = omega arith
 severity_small Deferred = omega arith
 severity_small Critical = omega arith
 
-header_read : (b : List ℕ) (len : ℕ) → 200 + len ≤ length b → signature_start b ≡ signature_start (codes "CPER") → signature_end b ≡ 0xFFFFFFFF → record_length b ≡ 200 + len → section_count b ≡ 1
+header_read : (b : List ℕ) (len : ℕ) → 200 + len ≤ length b → signature_start b ≡ signature_start (codes "CPER") → signature_end b ≡ end_mark → record_length b ≡ 200 + len → section_count b ≡ 1
     → header_kept b ≡ Ok tt
 unfolding header_kept
 header_read b len whole start mark end one =
@@ -62,10 +62,10 @@ module _ (v : RecordView) (id : ℕ) (section_type : List ℕ) (len : ℕ) (sect
   widths : HaveWidths front
   widths = (refl, (refl, (refl, (type_len, (refl, tt)))))
 
-  number_is : (k offset width value : ℕ) → slice_get front k ≡ Some (field offset width (Number value)) → value < 256 ^ width → number_at width offset bytes ≡ value
+  number_is : (k offset width value : ℕ) → slice_get front k ≡ Some (byte_field offset width (Number value)) → value < 256 ^ width → number_at width offset bytes ≡ value
   number_is k offset width value here fits = ap (number_at width offset) parts ∙ number_back front k (section ++ rest) offset width value refl widths here fits
 
-  bytes_is : (k offset width : ℕ) (own : List ℕ) → slice_get front k ≡ Some (field offset width (Bytes own)) → bytes_at width offset bytes ≡ own
+  bytes_is : (k offset width : ℕ) (own : List ℕ) → slice_get front k ≡ Some (byte_field offset width (Bytes own)) → bytes_at width offset bytes ≡ own
   bytes_is k offset width own here = ap (bytes_at width offset) parts ∙ bytes_back front k (section ++ rest) offset width own refl widths here
 
   starts : signature_start bytes ≡ signature_start (codes "CPER")
@@ -98,7 +98,7 @@ module _ (v : RecordView) (id : ℕ) (section_type : List ℕ) (len : ℕ) (sect
   record_back =
       let end = number_is 6 20 4 (200 + len) refl (omega (arith, small)) in
       let one = number_is 3 10 2 1 refl (omega arith) in
-      let mark = number_is 2 6 4 0xFFFFFFFF refl (omega arith) in
+      let mark = number_is 2 6 4 end_mark refl (omega arith) in
       let own : length (joined front) ≡ 200 = length_with front [] 0 refl widths in
       let whole : 200 + len ≤ length bytes =
       omega (arith, own, section_len, ap (λ (xs : List ℕ). length xs) parts, length-append (joined front) (section ++ rest), length-append section rest) in

@@ -3,21 +3,22 @@ use Rattle.std.proofs.Common.{◌≡◌, ℕ, zero, suc, ◌+◌, ◌-◌, ◌<�
 use Rattle.std.specs.List.{find, range_with_len}
 use Rattle.arrayvec.specs.ArrayVec.{ArrayVec}
 use Rattle.ras_bits.specs.declared.terms.SectionAt.{SectionAt}
-use Rattle.cper_sections.specs.Reading.{descriptor_place, is_in_place, none_misplaced, section_at, ◌>>=◌}
+use Rattle.ras_bits.specs.Results.{◌>>=◌}
+use Rattle.cper_sections.specs.Reading.{descriptor_start, is_in_place, none_misplaced, section_at}
 use Rattle.cper_sections.specs.declared.reading.CperRefused.{CperRefused}
 
 -- the sections that were taken, and those of the descriptors from number i on, so many
 abbrev pub sections_from : List ℕ → List SectionAt → ℕ → ℕ → Result (ArrayVec SectionAt) CperRefused
 sections_from b taken i left =
     none_misplaced (find (λ k. not (is_in_place b k)) (range_with_len i left))
-    >>= λ placed. Ok (record { items = taken ++ map (λ k. section_at b (descriptor_place k)) (range_with_len i left) })
+    >>= λ placed. Ok (record { items = taken ++ map (λ k. section_at b (descriptor_start k)) (range_with_len i left) })
 
 -- one section is read, and the next is looked at
 pub section_read : (b : List ℕ) (taken : List SectionAt) (i left : ℕ) → 0 < left → is_in_place b i ≡ true
-    → sections_from b taken i left ≡ sections_from b (taken ++ section_at b (descriptor_place i) ∷ []) (i + 1) (left - 1)
+    → sections_from b taken i left ≡ sections_from b (taken ++ section_at b (descriptor_start i) ∷ []) (i + 1) (left - 1)
 section_read b taken i zero some placed = absurd (omega arith)
 section_read b taken i (suc left) some placed =
     let less : suc left - 1 ≡ left = omega arith in
     rw (placed, less)
     (ap (λ (xs : List SectionAt). none_misplaced (find (λ k. not (is_in_place b k)) (range_with_len (i + 1) left)) >>= λ p. Ok (record { items = xs }))
-    (sym (append_assoc taken (section_at b (descriptor_place i) ∷ []) (map (λ k. section_at b (descriptor_place k)) (range_with_len (i + 1) left)))))
+    (sym (append_assoc taken (section_at b (descriptor_start i) ∷ []) (map (λ k. section_at b (descriptor_start k)) (range_with_len (i + 1) left)))))

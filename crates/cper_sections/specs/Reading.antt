@@ -3,38 +3,37 @@ use Rattle.std.specs.Prelude.{ℕ, ◌+◌, ◌*◌, ◌≤◌, Bool, not, ◌&&
 use Rattle.std.specs.List.{find, range_with_len}
 use Rattle.arrayvec.specs.ArrayVec.{ArrayVec}
 use Rattle.ras_bits.specs.Fields.{field, number_at}
+use Rattle.ras_bits.specs.Results.{◌>>=◌}
 use Rattle.ras_bits.specs.declared.terms.SectionAt.{SectionAt}
 use Rattle.byte_fields.specs.Fields.{bytes_at}
-use Rattle.cper_sections.specs.Layout.{descriptor_length, header_length}
+use Rattle.cper_sections.specs.Layout.{descriptor_length, header_length, end_mark}
 use Rattle.cper_sections.specs.declared.reading.Cper.{Cper}
 use Rattle.cper_sections.specs.declared.reading.CperRefused.{CperRefused}
 use Rattle.cper_sections.specs.declared.reading.CperRefused.TheVariants as refused
-
-infixl 10 ◌>>=◌
-abbrev pub ◌>>=◌ : {A B : Type 0} → Result A CperRefused → (A → Result B CperRefused) → Result B CperRefused
-(Ok x) >>= f = f x
-(Err e) >>= f = Err e
 
 -- the header's Signature Start, Signature End, Record Length and Section Count
 abbrev pub signature_start : List ℕ → ℕ
 signature_start b = number_at 4 0 b
 
+-- Signature End
 abbrev pub signature_end : List ℕ → ℕ
 signature_end b = number_at 4 6 b
 
+-- Record Length
 abbrev pub record_length : List ℕ → ℕ
 record_length b = number_at 4 20 b
 
+-- Section Count
 abbrev pub section_count : List ℕ → ℕ
 section_count b = number_at 2 10 b
 
--- the place of descriptor i
-abbrev pub descriptor_place : ℕ → ℕ
-descriptor_place i = header_length + descriptor_length * i
+-- where descriptor i begins
+abbrev pub descriptor_start : ℕ → ℕ
+descriptor_start i = header_length + descriptor_length * i
 
 -- where the descriptors end
 abbrev pub descriptors_end : List ℕ → ℕ
-descriptors_end b = descriptor_place (section_count b)
+descriptors_end b = descriptor_start (section_count b)
 
 -- so many descriptors lie in the bytes, 16 at most
 pub record HasDescriptors (b : List ℕ) : Type 0 where
@@ -46,7 +45,7 @@ unfoldable pub header_kept : List ℕ → Result (Unit {0}) CperRefused
 header_kept b =
     if nat_lt (length b) header_length then Err refused.Short
     else if not (signature_start b == signature_start (codes "CPER")) then Err refused.Signature
-    else if not (signature_end b == 0xFFFFFFFF) then Err refused.EndMark
+    else if not (signature_end b == end_mark) then Err refused.EndMark
     else if nat_lt (record_length b) header_length then Err refused.Length
     else if nat_lt (length b) (record_length b) then Err refused.Length
     else if section_count b == 0 then Err refused.Sections
@@ -54,17 +53,19 @@ header_kept b =
     else if nat_lt (record_length b) (descriptors_end b) then Err refused.Sections
     else Ok tt
 
--- of the descriptor at a place: Section Offset, Section Length, and the FRU Text, where its bit of Validation Bits is set
+-- of the descriptor from an offset on: Section Offset, Section Length, and the FRU Text, where its bit of Validation Bits is set
 abbrev pub section_offset : List ℕ → ℕ → ℕ
 section_offset b at = number_at 4 at b
 
+-- Section Length, of the descriptor from an offset on
 abbrev pub section_length : List ℕ → ℕ → ℕ
 section_length b at = number_at 4 (at + 4) b
 
+-- its FRU Text, where the bit of Validation Bits is set
 abbrev pub fru_at : List ℕ → ℕ → Option (List ℕ)
 fru_at b at = if field (number_at 1 (at + 10) b) 1 1 == 1 then Some (bytes_at 20 (at + 52) b) else None
 
--- the section of the descriptor at a place
+-- the section of the descriptor from an offset on
 unfoldable pub section_at : List ℕ → ℕ → SectionAt
 section_at b at = record {
   kind = bytes_at 16 (at + 16) b;
@@ -77,8 +78,8 @@ section_at b at = record {
 -- section i begins behind the descriptors and ends before the record does
 abbrev pub is_in_place : List ℕ → ℕ → Bool
 is_in_place b i =
-    nat_le (descriptors_end b) (section_offset b (descriptor_place i))
-    && nat_le (section_offset b (descriptor_place i) + section_length b (descriptor_place i)) (record_length b)
+    nat_le (descriptors_end b) (section_offset b (descriptor_start i))
+    && nat_le (section_offset b (descriptor_start i) + section_length b (descriptor_start i)) (record_length b)
 
 -- the numbers of the sections, counted from 0
 abbrev pub section_numbers : List ℕ → List ℕ
@@ -93,7 +94,7 @@ none_misplaced (Some i) = Err (refused.SectionPlace i)
 abbrev pub sections_of : List ℕ → Result (ArrayVec SectionAt) CperRefused
 sections_of b = do
   placed ← none_misplaced (find (λ i. not (is_in_place b i)) (section_numbers b))
-  Ok (record { items = map (λ i. section_at b (descriptor_place i)) (section_numbers b) })
+  Ok (record { items = map (λ i. section_at b (descriptor_start i)) (section_numbers b) })
 
 -- the record at the front
 unfoldable pub record_of : List ℕ → Result Cper CperRefused

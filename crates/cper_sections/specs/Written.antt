@@ -22,6 +22,7 @@ cper_with v id section_type length = record {
   };
 }
 
+-- what is read of the record of a view with an id
 abbrev pub cper_of : RecordView → ℕ → Cper
 cper_of v id =
     if v.kept.bank == 0 then cper_with v id memory_section_type memory_section_length

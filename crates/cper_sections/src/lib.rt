@@ -6,8 +6,6 @@
 
 mod reading;
 mod sections;
-#[cfg(test)]
-mod tests;
 mod writing;
 
 pub use reading::{Cper, CperRefused, read_record};

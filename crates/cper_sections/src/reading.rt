@@ -1,7 +1,7 @@
 //! Records, read back.
 
 ghost use Rattle.std.specs.Prelude.{◌≡◌, ◌+◌, ◌*◌, ◌≤◌, ◌<◌, length, OnOk};
-ghost use Rattle.cper_sections.specs.Reading.{HasDescriptors, header_kept, is_in_place, record_of, section_at, section_count, sections_of};
+ghost use Rattle.cper_sections.specs.Reading.{HasDescriptors, descriptor_start, header_kept, is_in_place, record_of, section_at, section_count, sections_of};
 
 use arrayvec::ArrayVec;
 use byte_fields::{array_at, u8_at};
@@ -11,7 +11,8 @@ pub(crate) const HEADER_LENGTH: usize = 128;
 
 pub(crate) const DESCRIPTOR_LENGTH: usize = 72;
 
-const END_MARK: u32 = 0xFFFF_FFFF;
+// What stands behind the revision of a record.
+pub(crate) const END_MARK: u32 = 0xFFFF_FFFF;
 
 /// What a record says.
 #[derive(Drop)]
@@ -24,7 +25,7 @@ pub struct Cper {
     pub at: u64,
     /// The length of the record in bytes.
     pub length: u32,
-    /// The sections, in the order of their descriptors; their places count from the record's first byte.
+    /// The sections, in the order of their descriptors; their offsets count from the record's first byte.
     pub sections: ArrayVec<SectionAt, 16>,
 }
 
@@ -45,7 +46,7 @@ pub enum CperRefused {
     SectionPlace(u32),
 }
 
-/// Reads the record at the front (UEFI Appendix N, "Common Platform Error Record"). Bytes behind it are passed over.
+/// Reads the record at the front (UEFI Appendix N, "Common Platform Error Record"). Bytes behind it are ignored.
 #[tactic(auto, unfolding(crate::specs::Reading::record_of))]
 pub fn read_record(b: &[u8]) -> Result<Cper, CperRefused>
     ensures { result ≡ record_of b.now }
@@ -80,15 +81,15 @@ fn keep_header(b: &[u8]) -> Result<(), CperRefused>
         return Err(CperRefused::Length);
     }
     let count = u16_at(b, 10);
-    if count == 0 || count > 16 || end < descriptor_place(count) {
+    if count == 0 || count > 16 || end < descriptor_start(count) {
         return Err(CperRefused::Sections);
     }
     Ok(())
 }
 
-// The place of descriptor `i`.
-fn descriptor_place(i: u16) -> usize
-    ensures { result ≡ 128 + 72 * i }
+// Where descriptor `i` begins.
+fn descriptor_start(i: u16) -> usize
+    ensures { result ≡ descriptor_start i }
 {
     HEADER_LENGTH + DESCRIPTOR_LENGTH * usize::from(i)
 }
@@ -103,7 +104,7 @@ fn read_sections(b: &[u8]) -> Result<ArrayVec<SectionAt, 16>, CperRefused>
         if !is_in_place(b, i) {
             return Err(CperRefused::SectionPlace(u32::from(i)));
         }
-        sections.push(section_at(b, descriptor_place(i)));
+        sections.push(section_at(b, descriptor_start(i)));
     }
     Ok(sections)
 }
@@ -114,15 +115,15 @@ fn is_in_place(b: &[u8], i: u16) -> bool
     requires section { i < section_count b.now }
     ensures { result ≡ is_in_place b.now i }
 {
-    let at = descriptor_place(i);
+    let at = descriptor_start(i);
     let start = u32_at(b, at) as usize;
     let section_end = start + u32_at(b, at + 4) as usize;
-    let first = descriptor_place(u16_at(b, 10));
+    let first = descriptor_start(u16_at(b, 10));
     let end = u32_at(b, 20) as usize;
     first <= start && section_end <= end
 }
 
-// The section of the descriptor at a place.
+// The section of the descriptor from an offset on.
 #[tactic(auto, unfolding(crate::specs::Reading::section_at))]
 fn section_at(b: &[u8], at: usize) -> SectionAt
     requires { at + 72 ≤ length b.now }

@@ -1,8 +1,9 @@
 //! Sections, and what stands beside them: severities and the text that names a unit.
 
-ghost use Rattle.std.specs.Prelude.{◌≡◌, ◌+◌, ◌%◌, ◌≤◌, ◌<◌};
+ghost use Rattle.std.specs.Prelude.{◌≡◌, ◌+◌, ◌%◌, ◌≤◌, ◌<◌, true};
 ghost use Rattle.byte_fields.specs.Fields.{joined};
-ghost use Rattle.cper_sections.specs.Layout.{NamesRecord, cache_error, fru_text, hart_error, memory_error_type, memory_section, processor_error, processor_section, severity_of};
+ghost use Rattle.poison_mem.specs.RecordId.{names_record};
+ghost use Rattle.cper_sections.specs.Layout.{cache_error, fru_text, hart_error, memory_error_type, memory_section, processor_error, processor_section, severity_of};
 
 use arrayvec::ArrayVec;
 use byte_fields::{push_u8, push_u64, push_zeros};
@@ -40,7 +41,7 @@ pub fn severity_of(c: Class) -> u32
 /// number of corrected errors with a plus sign where there were more, the classes that came, and whether there were several
 /// of the worst. A zero ends it. The view is of a record that there is.
 pub fn fru_text(v: &RecordView) -> [u8; 20]
-    requires { NamesRecord v.now }
+    requires { names_record v.now.kept.bank v.now.kept.rec ≡ true }
     ensures { result ≡ fru_text v.now }
 {
     [

@@ -1,13 +1,14 @@
 //! Records.
 
-ghost use Rattle.std.specs.Prelude.{ℕ, List, ◌≡◌, ◌+◌, ◌≤◌, ◌<◌, ◌^◌, ◌++◌, length, Ok};
+ghost use Rattle.std.specs.Prelude.{ℕ, List, ◌≡◌, ◌+◌, ◌≤◌, ◌<◌, ◌^◌, ◌++◌, length, true, Ok};
 ghost use Rattle.arrayvec.specs.ArrayVec.{array_vec_len};
 ghost use Rattle.byte_fields.specs.Fields.{with_fields};
-ghost use Rattle.cper_sections.specs.Layout.{NamesRecord, record_bytes, record_front, record_header, section_descriptor};
+ghost use Rattle.poison_mem.specs.RecordId.{names_record};
+ghost use Rattle.cper_sections.specs.Layout.{record_bytes, record_front, record_header, section_descriptor};
 ghost use Rattle.cper_sections.specs.Reading.{record_of};
 ghost use Rattle.cper_sections.specs.Written.{cper_of};
 
-use crate::reading::{DESCRIPTOR_LENGTH, HEADER_LENGTH};
+use crate::reading::{DESCRIPTOR_LENGTH, END_MARK, HEADER_LENGTH};
 use crate::sections::{
     MEMORY_SECTION, PROCESSOR_SECTION, fru_text, mem_section, proc_section, severity_of,
 };
@@ -23,6 +24,11 @@ const CREATOR: [u8; 16] = [
     0x21, 0x53, 0x41, 0x52, 0x41, 0x4D, 0x48, 0x43, 0x80, 0, 0, 0, 0, 0, 0, 1,
 ];
 
+// The revisions of a record and of a section descriptor.
+const RECORD_REVISION: u16 = 0x0101;
+
+const DESCRIPTOR_REVISION: u16 = 0x0100;
+
 const SECTION_START: u32 = (HEADER_LENGTH + DESCRIPTOR_LENGTH) as u32;
 
 const MEMORY_LENGTH: u32 = 73;
@@ -33,7 +39,7 @@ const PROCESSOR_LENGTH: u32 = 192;
 /// record id `id`, one section descriptor, and a memory section for bank 0, else a processor section with the hart's number.
 /// The view is of a record that there is.
 pub fn write_record(v: &RecordView, hart: u64, id: u64, out: &mut ArrayVec<u8, 400>)
-    requires { NamesRecord v.now }
+    requires { names_record v.now.kept.bank v.now.kept.rec ≡ true }
     ensures bytes { out.new.items ≡ record_bytes v.now hart id }
     ensures reads_back { (rest : List ℕ) → record_of (out.new.items ++ rest) ≡ Ok (cper_of v.now id) }
 {
@@ -55,7 +61,7 @@ fn push_front(
     section_type: &[u8; 16],
     section_length: u32,
 )
-    requires view { NamesRecord v.now }
+    requires view { names_record v.now.kept.bank v.now.kept.rec ≡ true }
     requires room { array_vec_len out.old + 200 ≤ 400 }
     requires section { section_length ≤ 192 }
     ensures items { out.new.items ≡ with_fields out.old.items (record_front v.now id section_type.now section_length) }
@@ -74,8 +80,8 @@ fn push_header(out: &mut ArrayVec<u8, 400>, v: &RecordView, id: u64, section_len
     ensures at_fits { v.now.kept.at < 2 ^ 64 }
 {
     push_bytes(out, b"CPER");
-    push_u16(out, 0x0101);
-    push_u32(out, 0xFFFF_FFFF);
+    push_u16(out, RECORD_REVISION);
+    push_u32(out, END_MARK);
     push_u16(out, 1);
     push_u32(out, severity_of(v.kept.class));
     push_u32(out, 0);
@@ -97,14 +103,14 @@ fn push_descriptor(
     section_type: &[u8; 16],
     section_length: u32,
 )
-    requires view { NamesRecord v.now }
+    requires view { names_record v.now.kept.bank v.now.kept.rec ≡ true }
     requires room { array_vec_len out.old + 72 ≤ 400 }
     ensures items { out.new.items ≡ with_fields out.old.items (section_descriptor v.now section_type.now section_length) }
     ensures len { array_vec_len out.new ≡ array_vec_len out.old + 72 }
 {
     push_u32(out, SECTION_START);
     push_u32(out, section_length);
-    push_u16(out, 0x0100);
+    push_u16(out, DESCRIPTOR_REVISION);
     push_u8(out, 2);
     push_zeros(out, 1);
     push_u32(out, 1);

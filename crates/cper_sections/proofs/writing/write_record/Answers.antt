@@ -1,6 +1,6 @@
 use Rattle.std.proofs.Common.{◌≡◌, ℕ, Ok, List, [], ◌++◌, refl, ◌∙◌, ap, arith}
 use Rattle.byte_fields.specs.Fields.{joined, with_fields}
-use Rattle.byte_fields.specs.Laws.{length_with}
+use Rattle.byte_fields.specs.FieldsLaws.{length_with}
 use Rattle.cper_sections.specs.Layout.{memory_section, memory_section_length, memory_section_type, processor_section, processor_section_length, processor_section_type, record_front}
 use Rattle.cper_sections.specs.Reading.{record_of}
 use Rattle.cper_sections.proofs.ReadBack.{memory_view, processor_view, record_back}

@@ -7,7 +7,7 @@ use Rattle.std.proofs.Math.Seq.{drop-append_seam, take-append_seam}
 use Rattle.byteorder.specs.Numbers.{length-bytes_low_first, little_from-append, little_number-reads_back}
 use Rattle.byteorder.specs.Endian.{little_number}
 use Rattle.ras_bits.specs.Fields.{number_at}
-use Rattle.byte_fields.specs.Fields.{little, zeros, bytes_at, Content, Number, Bytes, Clear, Field, field, content_bytes, with_fields, joined, begin_from, end_from, HasWidth, HaveWidths}
+use Rattle.byte_fields.specs.Fields.{little, zeros, bytes_at, Content, Number, Bytes, Clear, Field, byte_field, content_bytes, with_fields, joined, begin_from, end_from, HasWidth, HaveWidths, StandsAt}
 
 pub length-little : (width value : ℕ) → length (little width value) ≡ width
 unfolding little
@@ -40,12 +40,6 @@ length_with (f ∷ fs) front start len h =
     let own = length_content f (HaveWidths fs) h in
     length_with fs (front ++ content_bytes f.width f.content) (start + f.width) (omega (arith, own.0, length-append front (content_bytes f.width f.content))) own.1
 
--- bytes at the offset of field k: its own, and others behind them
-pub record Stands (whole : List ℕ) (f : Field) : Type 0 where
-  pub own : length (content_bytes f.width f.content) ≡ f.width
-  pub behind : List ℕ
-  pub there : drop f.offset whole ≡ content_bytes f.width f.content ++ behind
-
 begins : (offset start : ℕ) (others : Bool) → (offset == start && others) ≡ true → (offset ≡ start) × (others ≡ true)
 begins offset start others h = by_test (offset == start) refl h where
   by_test : (t : Bool) → (offset == start) ≡ t → (t && others) ≡ true → (offset ≡ start) × (others ≡ true)
@@ -53,7 +47,7 @@ begins offset start others h = by_test (offset == start) refl h where
   by_test false e h = absurd cc
 
 stands_from : (fs : List Field) (k start : ℕ) (front rest : List ℕ) (f : Field) → length front ≡ start → begin_from start fs ≡ true → HaveWidths fs → slice_get fs k ≡ Some f
-    → Stands (with_fields front fs ++ rest) f
+    → StandsAt (with_fields front fs ++ rest) f
 stands_from [] k start front rest f len laid widths is = absurd cc
 stands_from (g ∷ fs) zero start front rest f len laid widths is =
     let first = begins g.offset start (begin_from (start + g.width) fs) laid in
@@ -65,7 +59,7 @@ stands_from (g ∷ fs) zero start front rest f len laid widths is =
     ap (λ (n : ℕ). drop n (with_fields (front ++ bytes) fs ++ rest)) (first.0 ∙ sym len)
     ∙ ap (drop (length front)) whole ∙ drop-append_seam front (bytes ++ (joined fs ++ rest)) in
     let same : g ≡ f = cc in
-    subst (λ (h : Field). Stands (with_fields (front ++ bytes) fs ++ rest) h) same (record { own = own.0; behind = joined fs ++ rest; there = there })
+    subst (λ (h : Field). StandsAt (with_fields (front ++ bytes) fs ++ rest) h) same (record { own = own.0; behind = joined fs ++ rest; there = there })
 stands_from (g ∷ fs) (suc k) start front rest f len laid widths is =
     let first = begins g.offset start (begin_from (start + g.width) fs) laid in
     let own = length_content g (HaveWidths fs) widths in
@@ -73,23 +67,23 @@ stands_from (g ∷ fs) (suc k) start front rest f len laid widths is =
     stands_from fs k (start + g.width) (front ++ bytes) rest f (omega (arith, own.0, length-append front bytes)) first.1 own.1 is
 
 -- field k of a format stands at its offset, whatever follows the fields
-pub stands : (fs : List Field) (k : ℕ) (rest : List ℕ) (f : Field) → begin_from 0 fs ≡ true → HaveWidths fs → slice_get fs k ≡ Some f → Stands (joined fs ++ rest) f
+pub stands : (fs : List Field) (k : ℕ) (rest : List ℕ) (f : Field) → begin_from 0 fs ≡ true → HaveWidths fs → slice_get fs k ≡ Some f → StandsAt (joined fs ++ rest) f
 stands fs k rest f laid widths is = stands_from fs k 0 [] rest f refl laid widths is
 
 -- a number that is a field is read at its offset
-pub number_back : (fs : List Field) (k : ℕ) (rest : List ℕ) (offset width value : ℕ) → begin_from 0 fs ≡ true → HaveWidths fs → slice_get fs k ≡ Some (field offset width (Number value))
+pub number_back : (fs : List Field) (k : ℕ) (rest : List ℕ) (offset width value : ℕ) → begin_from 0 fs ≡ true → HaveWidths fs → slice_get fs k ≡ Some (byte_field offset width (Number value))
     → value < 256 ^ width → number_at width offset (joined fs ++ rest) ≡ value
 unfolding number_at little
 number_back fs k rest offset width value laid widths is fits =
-    let s = stands fs k rest (field offset width (Number value)) laid widths is in
+    let s = stands fs k rest (byte_field offset width (Number value)) laid widths is in
     ap (little_number width) s.there ∙ little_number-reads_back width value s.behind fits
 
 -- bytes that are a field are read at their offset
-pub bytes_back : (fs : List Field) (k : ℕ) (rest : List ℕ) (offset width : ℕ) (bytes : List ℕ) → begin_from 0 fs ≡ true → HaveWidths fs → slice_get fs k ≡ Some (field offset width (Bytes bytes))
+pub bytes_back : (fs : List Field) (k : ℕ) (rest : List ℕ) (offset width : ℕ) (bytes : List ℕ) → begin_from 0 fs ≡ true → HaveWidths fs → slice_get fs k ≡ Some (byte_field offset width (Bytes bytes))
     → bytes_at width offset (joined fs ++ rest) ≡ bytes
 unfolding bytes_at
 bytes_back fs k rest offset width bytes laid widths is =
-    let s = stands fs k rest (field offset width (Bytes bytes)) laid widths is in
+    let s = stands fs k rest (byte_field offset width (Bytes bytes)) laid widths is in
     ap (take width) s.there ∙ ap (λ (n : ℕ). take n (bytes ++ s.behind)) (sym s.own) ∙ take-append_seam bytes s.behind
 
 -- what stands behind the fields
@@ -108,9 +102,9 @@ unfolding bytes_at
 bytes_further n skip at b = ap (take n) (sym (drop-drop at skip b))
 
 -- bytes that are a field are read as the number that they are by themselves
-pub bytes_as_number : (fs : List Field) (k : ℕ) (rest : List ℕ) (offset width : ℕ) (bytes : List ℕ) → begin_from 0 fs ≡ true → HaveWidths fs → slice_get fs k ≡ Some (field offset width (Bytes bytes))
+pub bytes_as_number : (fs : List Field) (k : ℕ) (rest : List ℕ) (offset width : ℕ) (bytes : List ℕ) → begin_from 0 fs ≡ true → HaveWidths fs → slice_get fs k ≡ Some (byte_field offset width (Bytes bytes))
     → number_at width offset (joined fs ++ rest) ≡ number_at width 0 bytes
 unfolding number_at
 bytes_as_number fs k rest offset width bytes laid widths is =
-    let s = stands fs k rest (field offset width (Bytes bytes)) laid widths is in
+    let s = stands fs k rest (byte_field offset width (Bytes bytes)) laid widths is in
     ap (little_number width) s.there ∙ little_from-append width bytes s.behind (omega (arith, s.own))
