@@ -1,5 +1,6 @@
--- A bank: as the code keeps it, and as the lists that it stands for.
-use Rattle.std.specs.Prelude.{ℕ, ◌+◌, ◌-◌, ◌*◌, ◌==◌, is_some, nat_le, Bool, true, false, ◌&&◌, ◌||◌, not, if◌then◌else◌, [], Option, Some, None}
+-- A bank: as the code keeps it, and as the lists that it stands for (a profile of RERI 1.0, "Error bank and error record
+-- registers").
+use Rattle.std.specs.Prelude.{ℕ, ◌+◌, ◌-◌, ◌*◌, ◌==◌, is_some, nat_le, nat_lt, Bool, true, false, ◌&&◌, ◌||◌, not, if◌then◌else◌, [], Option, Some, None}
 use Rattle.poison_mem.specs.declared.event.Event.{Event}
 use Rattle.reri_bank.specs.declared.bank.BankKind.{BankKind}
 use Rattle.reri_bank.specs.declared.bank.BankKind.TheVariants.{Memory, Caches, Hart}
@@ -8,8 +9,11 @@ use Rattle.reri_bank.specs.declared.state.RecState.{RecState}
 use Rattle.reri_bank.specs.declared.state.Staged.{Staged}
 use Rattle.reri_bank.specs.State.{RecordLists, shown, state_logged, lists_logged, state_written, lists_written}
 use Rattle.reri_bank.specs.BankState.{BankState, kind_number}
-use Rattle.reri_bank.specs.Layout.{control_word, status_word, number_of}
+use Rattle.reri_bank.specs.Layout.{control_word, status_word}
 use Rattle.poison_mem.specs.declared.event.RecordView.{RecordView}
+use Rattle.std.specs.Int.{from_bool}
+use Rattle.reri_bank.specs.declared.layout.TheConstants.{CONTROL, STRIDE, STATUS, ADDR, INFO, SUPPL, TIMESTAMP, BANK_INFO, VALID_SUMMARY}
+use Rattle.reri_bank.specs.declared.bank.TheConstants.{RECORDS_UNIT, VERSION}
 
 -- how many records a bank of each kind has
 abbrev pub record_count : BankKind → ℕ
@@ -89,20 +93,20 @@ lists_bank_staged b rec staged = with_lists b rec (lists_staged staged)
 
 -- which record's control register stands at an offset
 abbrev pub is_control_of : BankKind → ℕ → Bool
-is_control_of kind offset = offset == 64 || (offset == 128 && not (is_hart kind))
+is_control_of kind offset = offset == CONTROL || (offset == CONTROL + STRIDE && not (is_hart kind))
 
 -- a write changes a record by its control register, and nothing at every other offset
 abbrev pub bank_written : BankState → ℕ → ℕ → BankState
 bank_written b offset v =
-    if offset == 64 then with_record b 0 (λ s. state_written (is_hart b.kind) s v)
-    else if offset == 128 && not (is_hart b.kind) then with_record b 1 (λ s. state_written (is_hart b.kind) s v)
+    if offset == CONTROL then with_record b 0 (λ s. state_written (is_hart b.kind) s v)
+    else if offset == CONTROL + STRIDE && not (is_hart b.kind) then with_record b 1 (λ s. state_written (is_hart b.kind) s v)
     else b
 
 -- the same of the lists
 abbrev pub lists_bank_written : BankLists → ℕ → ℕ → BankLists
 lists_bank_written b offset v =
-    if offset == 64 then with_lists b 0 (λ r. lists_written (is_hart b.kind) r v)
-    else if offset == 128 && not (is_hart b.kind) then with_lists b 1 (λ r. lists_written (is_hart b.kind) r v)
+    if offset == CONTROL then with_lists b 0 (λ r. lists_written (is_hart b.kind) r v)
+    else if offset == CONTROL + STRIDE && not (is_hart b.kind) then with_lists b 1 (λ r. lists_written (is_hart b.kind) r v)
     else b
 
 -- the steps left of what is staged, 0 without
@@ -112,31 +116,31 @@ eid_of (Some s) = s.left
 
 -- the bank's number from bit 0 up, its number of records from bit 16 up, and version 1 from bit 56 up
 abbrev pub bank_info : BankKind → ℕ
-bank_info kind = kind_number kind + 0x1_0000 * record_count kind + 0x100_0000_0000_0000
+bank_info kind = kind_number kind + RECORDS_UNIT * record_count kind + VERSION
 
 -- bit 0 is 1, and bit i + 1 is set where record i is valid
 abbrev pub valid_summary : BankState → ℕ
-valid_summary b = 1 + 2 * number_of (is_some b.first.kept) + 4 * number_of (not (is_hart b.kind) && is_some b.second.kept)
+valid_summary b = 1 + 2 * from_bool (is_some b.first.kept) + 4 * from_bool (not (is_hart b.kind) && is_some b.second.kept)
 
 -- addr, info, suppl_info and timestamp of the kept event, 0 of an empty record
 abbrev pub kept_register : Option RecordView → ℕ → ℕ
-kept_register None place = 0
-kept_register (Some v) place = if place == 16 then v.kept.addr else if place == 24 then v.kept.info else if place == 32 then v.kept.suppl else v.kept.at
+kept_register None offset = 0
+kept_register (Some v) offset = if offset == ADDR then v.kept.addr else if offset == INFO then v.kept.info else if offset == SUPPL then v.kept.suppl else v.kept.at
 
 -- the registers of one record, by their offset from its first; every other offset is undefined
 abbrev pub record_register : RecState → ℕ → Option ℕ
-record_register s place =
-    if place == 0 then Some (control_word s.control (eid_of s.staged))
-    else if place == 8 then Some (status_word s.kept s.control.cece s.rdip)
-    else if place == 16 || place == 24 || place == 32 || place == 40 then Some (kept_register s.kept place)
+record_register s offset =
+    if offset == 0 then Some (control_word s.control (eid_of s.staged))
+    else if offset == STATUS then Some (status_word s.kept s.control.cece s.rdip)
+    else if offset == ADDR || offset == INFO || offset == SUPPL || offset == TIMESTAMP then Some (kept_register s.kept offset)
     else None
 
 -- the registers of a bank; every other offset is undefined, also inside a register
 abbrev pub register_at : BankState → ℕ → Option ℕ
 register_at b offset =
     if offset == 0 then Some 0
-    else if offset == 8 then Some (bank_info b.kind)
-    else if offset == 16 then Some (valid_summary b)
-    else if nat_le 64 offset && nat_le offset 127 then record_register b.first (offset - 64)
-    else if nat_le 128 offset && nat_le offset 191 && not (is_hart b.kind) then record_register b.second (offset - 128)
+    else if offset == BANK_INFO then Some (bank_info b.kind)
+    else if offset == VALID_SUMMARY then Some (valid_summary b)
+    else if nat_le CONTROL offset && nat_lt offset (CONTROL + STRIDE) then record_register b.first (offset - CONTROL)
+    else if nat_le (CONTROL + STRIDE) offset && nat_lt offset (CONTROL + 2 * STRIDE) && not (is_hart b.kind) then record_register b.second (offset - (CONTROL + STRIDE))
     else None

@@ -3,7 +3,7 @@ use Rattle.std.specs.Prelude.{ℕ}
 use Rattle.reri_bank.specs.declared.bank.BankKind.{BankKind}
 use Rattle.reri_bank.specs.declared.bank.BankKind.TheVariants.{Memory, Caches, Hart}
 use Rattle.reri_bank.specs.declared.state.RecState.{RecState}
-use Rattle.reri_bank.specs.State.{IsHeld}
+use Rattle.reri_bank.specs.State.{IsRecordHeld}
 
 -- the number of a bank of each kind
 abbrev pub kind_number : BankKind → ℕ
@@ -19,5 +19,5 @@ pub record BankState : Type 0 where
 
 -- what holds of each record of a bank
 pub record AreHeld (b : BankState) : Type 0 where
-  pub first : IsHeld (kind_number b.kind) 0 b.first
-  pub second : IsHeld (kind_number b.kind) 1 b.second
+  pub first : IsRecordHeld (kind_number b.kind) 0 b.first
+  pub second : IsRecordHeld (kind_number b.kind) 1 b.second

@@ -4,10 +4,11 @@ use Rattle.poison_mem.specs.declared.event.Event.{Event}
 use Rattle.poison_mem.specs.declared.event.RecordView.{RecordView}
 use Rattle.reri_bank.specs.declared.bank.BankKind.TheVariants.{Memory, Caches, Hart}
 use Rattle.reri_bank.specs.declared.state.Staged.{Staged}
-use Rattle.reri_bank.specs.Record.{severity}
+use Rattle.reri_bank.specs.Record.{rank}
 use Rattle.reri_bank.specs.BankState.{BankState}
 use Rattle.reri_bank.specs.BanksState.{BanksState}
 use Rattle.reri_bank.specs.Bank.{BankLists, bank_shown, bank_logged, lists_bank_logged, new_bank, new_lists, bank_written, lists_bank_written, bank_staged, lists_bank_staged}
+use Rattle.poison_mem.specs.RecordId.{names_record}
 
 -- the three banks as lists, and the step that is put into events
 pub record BanksLists : Type 0 where
@@ -58,10 +59,6 @@ with_bank_lists b bank change =
     else if bank == 1 then record { memory = b.memory; caches = change b.caches; hart = b.hart; step = b.step }
     else record { memory = b.memory; caches = b.caches; hart = change b.hart; step = b.step }
 
--- an event that names a record of these banks
-abbrev pub names_record : ℕ → ℕ → Bool
-names_record bank rec = if bank == 0 then nat_lt rec 2 else if bank == 1 then nat_lt rec 2 else if bank == 2 then rec == 0 else false
-
 -- an event with the step
 abbrev pub stamped : ℕ → Event → Event
 stamped now e = record { bank = e.bank; rec = e.rec; class = e.class; pri = e.pri; code = e.code; scrub = e.scrub; addr = e.addr; info = e.info; suppl = e.suppl; at = now }
@@ -98,7 +95,7 @@ lists_banks_staged b bank rec staged = with_bank_lists b bank (λ k. lists_bank_
 -- a critical event is kept
 abbrev pub is_critical : Option RecordView → Bool
 is_critical None = false
-is_critical (Some v) = severity v.kept.class == 2
+is_critical (Some v) = rank v.kept.class == 2
 
 -- the least bank and record that keeps a critical event
 abbrev pub first_critical : BanksState → Option (ℕ × ℕ)

@@ -1,9 +1,15 @@
 pub mod Record
+pub mod RecordLaws
 pub mod Views
+pub mod ViewsLaws
+pub mod ControlFields
 pub mod Layout
+pub mod LayoutLaws
 pub mod State
+pub mod StateLaws
 pub mod BankState
 pub mod Bank
 pub mod BanksState
 pub mod Banks
-pub mod Place
+pub mod StateAt
+pub mod StateAtLaws

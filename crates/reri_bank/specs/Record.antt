@@ -1,20 +1,21 @@
--- What a record shows of the events since its last clear.
+-- What a record shows of the events since its last clear (a profile of RERI 1.0, "Error bank and error record registers").
 use Rattle.std.specs.Prelude.{ℕ, ◌+◌, ◌==◌, Bool, true, false, ◌&&◌, ◌||◌, nat_lt, min, if◌then◌else◌, List, [], ◌∷◌, Option, Some, None}
 use Rattle.std.specs.Option.{option_map}
 use Rattle.poison_mem.specs.declared.event.Class.{Class}
 use Rattle.poison_mem.specs.declared.event.Class.TheVariants.{Corrected, Deferred, Critical}
 use Rattle.poison_mem.specs.declared.event.Event.{Event}
 use Rattle.poison_mem.specs.declared.event.RecordView.{RecordView}
+use Rattle.reri_bank.specs.declared.record.TheConstants.{MOST_COUNTED}
 
--- the place of a class in the rising order CE, UED, UEC
-abbrev pub severity : Class → ℕ
-severity Corrected = 0
-severity Deferred = 1
-severity Critical = 2
+-- the rank of a class in the rising order CE, UED, UEC
+abbrev pub rank : Class → ℕ
+rank Corrected = 0
+rank Deferred = 1
+rank Critical = 2
 
 -- a greater class, or the same class and a greater priority
 abbrev pub ranks_above : Event → Event → Bool
-ranks_above e k = nat_lt (severity k.class) (severity e.class) || (severity e.class == severity k.class && nat_lt k.pri e.pri)
+ranks_above e k = nat_lt (rank k.class) (rank e.class) || (rank e.class == rank k.class && nat_lt k.pri e.pri)
 
 -- the first of the greatest: an event stands before what is kept of those after it
 abbrev pub kept_with : Event → Option Event → Event
@@ -29,7 +30,7 @@ kept_of (e ∷ es) = Some (kept_with e (kept_of es))
 -- how many events have a class
 abbrev pub of_class : ℕ → List Event → ℕ
 of_class class [] = 0
-of_class class (e ∷ es) = (if severity e.class == class then 1 else 0) + of_class class es
+of_class class (e ∷ es) = (if rank e.class == class then 1 else 0) + of_class class es
 
 -- what is shown of events of which one is kept
 abbrev pub view_of_events : List Event → Event → RecordView
@@ -38,9 +39,9 @@ view_of_events es kept = record {
   ce = nat_lt 0 (of_class 0 es);
   ued = nat_lt 0 (of_class 1 es);
   uec = nat_lt 0 (of_class 2 es);
-  mo = nat_lt 1 (of_class (severity kept.class) es);
-  cec = min (of_class 0 es) 65535;
-  ceco = nat_lt 65535 (of_class 0 es);
+  mo = nat_lt 1 (of_class (rank kept.class) es);
+  cec = min (of_class 0 es) MOST_COUNTED;
+  ceco = nat_lt MOST_COUNTED (of_class 0 es);
 }
 
 -- a record by its events since the last clear
@@ -49,36 +50,36 @@ rec_of es = option_map (view_of_events es) (kept_of es)
 
 -- by one event more: two events of the kept class have come
 abbrev pub more_after : RecordView → Class → Bool
-more_after v class = if nat_lt (severity v.kept.class) (severity class) then false else v.mo || severity class == severity v.kept.class
+more_after v class = if nat_lt (rank v.kept.class) (rank class) then false else v.mo || rank class == rank v.kept.class
 
 -- the class is CE
 abbrev pub is_corrected : Class → Bool
-is_corrected class = severity class == 0
+is_corrected class = rank class == 0
 
 -- by one event more: the number of CE, up to the last that fits
 abbrev pub count_after : RecordView → Class → ℕ
-count_after v class = if is_corrected class && nat_lt v.cec 65535 then v.cec + 1 else v.cec
+count_after v class = if is_corrected class && nat_lt v.cec MOST_COUNTED then v.cec + 1 else v.cec
 
 -- by one event more: more CE came than are counted
 abbrev pub passed_after : RecordView → Class → Bool
-passed_after v class = if is_corrected class && v.cec == 65535 then true else v.ceco
+passed_after v class = if is_corrected class && v.cec == MOST_COUNTED then true else v.ceco
 
 -- what live registers become by one event more
 unfoldable pub with_event : Option RecordView → Event → RecordView
 with_event None e = record {
   kept = e;
-  ce = severity e.class == 0;
-  ued = severity e.class == 1;
-  uec = severity e.class == 2;
+  ce = rank e.class == 0;
+  ued = rank e.class == 1;
+  uec = rank e.class == 2;
   mo = false;
-  cec = if severity e.class == 0 then 1 else 0;
+  cec = if rank e.class == 0 then 1 else 0;
   ceco = false;
 }
 with_event (Some v) e = record {
   kept = if ranks_above e v.kept then e else v.kept;
-  ce = v.ce || severity e.class == 0;
-  ued = v.ued || severity e.class == 1;
-  uec = v.uec || severity e.class == 2;
+  ce = v.ce || rank e.class == 0;
+  ued = v.ued || rank e.class == 1;
+  uec = v.uec || rank e.class == 2;
   mo = more_after v e.class;
   cec = count_after v e.class;
   ceco = passed_after v e.class;

@@ -1,12 +1,15 @@
--- The state of one record: as the code keeps it, and as the lists that it stands for.
-use Rattle.std.specs.Prelude.{◌≡◌, ℕ, ◌<◌, ◌≤◌, not, IsTrue, Bool, true, false, ◌||◌, if◌then◌else◌, List, [], ◌∷◌, ◌++◌, Option, Some, None, is_some, IfSome}
+-- The state of one record: as the code keeps it, and as the lists that it stands for (a profile of RERI 1.0, "Error bank and
+-- error record registers").
+use Rattle.std.specs.Prelude.{◌≡◌, ℕ, ◌<◌, ◌≤◌, not, IsTrue, Bool, false, ◌||◌, if◌then◌else◌, List, [], ◌∷◌, ◌++◌, Option, Some, None, is_some, IfSome}
 use Rattle.poison_mem.specs.declared.event.Event.{Event}
 use Rattle.reri_bank.specs.declared.layout.Control.{Control}
 use Rattle.reri_bank.specs.declared.state.RecState.{RecState}
 use Rattle.reri_bank.specs.declared.state.Staged.{Staged}
-use Rattle.reri_bank.specs.Layout.{bit, control_value}
+use Rattle.reri_bank.specs.Layout.{control_value}
 use Rattle.reri_bank.specs.Views.{IsReachable, IsOf}
 use Rattle.reri_bank.specs.Record.{rec_of, with_event}
+use Rattle.ras_bits.specs.Bits.{has_bit}
+use Rattle.reri_bank.specs.declared.layout.TheConstants.{SINV, SRDP}
 
 -- a record as lists: the events since its last clear, `rdip`, its control and what is staged
 pub record RecordLists : Type 0 where
@@ -35,14 +38,9 @@ lists_emptied r = if r.rdip then record { events = []; rdip = false; control = r
 abbrev pub state_emptied : RecState → RecState
 state_emptied s = if s.rdip then record { kept = None; rdip = false; control = s.control; staged = s.staged } else s
 
--- some event came since the last clear
-abbrev pub has_events : List Event → Bool
-has_events [] = false
-has_events (e ∷ es) = true
-
 -- srdp: sets `rdip` where the record is valid
 abbrev pub lists_marked : RecordLists → RecordLists
-lists_marked r = record { events = r.events; rdip = has_events r.events || r.rdip; control = r.control; staged = r.staged }
+lists_marked r = record { events = r.events; rdip = is_some (rec_of r.events) || r.rdip; control = r.control; staged = r.staged }
 
 -- the same of the live registers
 abbrev pub state_marked : RecState → RecState
@@ -56,19 +54,19 @@ control_after always_logs v = let c = control_value v in record { logging = c.lo
 abbrev pub lists_written : Bool → RecordLists → ℕ → RecordLists
 lists_written always_logs r v =
     let set : RecordLists = record { events = r.events; rdip = r.rdip; control = control_after always_logs v; staged = r.staged } in
-    let emptied = if bit v 32 then lists_emptied set else set in
-    if bit v 33 then lists_marked emptied else emptied
+    let emptied = if has_bit v SINV then lists_emptied set else set in
+    if has_bit v SRDP then lists_marked emptied else emptied
 
 -- the same of the live registers
 abbrev pub state_written : Bool → RecState → ℕ → RecState
 state_written always_logs s v =
     let set : RecState = record { kept = s.kept; rdip = s.rdip; control = control_after always_logs v; staged = s.staged } in
-    let emptied = if bit v 32 then state_emptied set else set in
-    if bit v 33 then state_marked emptied else emptied
+    let emptied = if has_bit v SINV then state_emptied set else set in
+    if has_bit v SRDP then state_marked emptied else emptied
 
 -- what holds of the state of a record of a bank: its view is reachable and names it, `rdip` is set only with one, the
 -- fields of the control fit, a staged count is at least 1, and the hart's bank logs always and has nothing staged
-pub record IsHeld (bank rec : ℕ) (s : RecState) : Type 0 where
+pub record IsRecordHeld (bank rec : ℕ) (s : RecState) : Type 0 where
   pub reachable : IfSome s.kept IsReachable
   pub names : IfSome s.kept (λ v. IsOf bank rec v.kept)
   pub rdip : IsTrue (not s.rdip || is_some s.kept)

@@ -3,14 +3,27 @@
 ghost use Rattle.std.specs.Prelude.{◌≡◌, ◌<◌, ◌≤◌, ◌==◌, ℕ, None, IfSome};
 ghost use Rattle.poison_mem.specs.declared.event.Event.{Event};
 ghost use Rattle.reri_bank.specs.Views.{IsReachable, IsOf, PriFits};
-ghost use Rattle.reri_bank.specs.State.{IsHeld, RecordLists, shown};
+ghost use Rattle.reri_bank.specs.State.{IsRecordHeld, RecordLists, shown};
 ghost use Rattle.reri_bank.specs.BankState.{kind_number, AreHeld};
 ghost use Rattle.reri_bank.specs.Bank.{is_hart, with_record, with_lists, BankLists, bank_shown, record_count, record_at, bank_logged, lists_bank_logged, new_state, new_bank, new_lists, bank_written, lists_bank_written, is_control_of, bank_staged, lists_bank_staged, eid_of, bank_info, kept_register, record_register, register_at, valid_summary};
 
-use crate::layout::{Control, control_bits, status_bits};
+use crate::layout::{
+    ADDR, BANK_INFO, CONTROL, Control, INFO, STATUS, STRIDE, SUPPL, TIMESTAMP, VALID_SUMMARY,
+    control_bits, status_bits,
+};
 use crate::state::{RecState, Staged};
 use poison_mem::{Event, RecordView};
 use std::marker::Model;
+
+// Where the registers of the second record begin, and where they end.
+const SECOND_CONTROL: u16 = CONTROL + STRIDE;
+
+const RECORDS_END: u16 = SECOND_CONTROL + STRIDE;
+
+// The unit of the number of records in the register that describes a bank, and what the version adds to it.
+pub(crate) const RECORDS_UNIT: u64 = 1 << 16;
+
+pub(crate) const VERSION: u64 = 1 << 56;
 
 /// What a bank's records are about.
 #[derive(Clone, Copy, Debug, PartialEq, Eq)]
@@ -55,20 +68,20 @@ pub struct Bank {
 }
 
 impl Model for Bank {
-    ghost use Rattle.reri_bank.specs.State.{IsHeld};
+    ghost use Rattle.reri_bank.specs.State.{IsRecordHeld};
     ghost use Rattle.reri_bank.specs.BankState.{BankState, kind_number};
 
     ghost Value = { BankState };
 
     ghost view = { λ b. record { kind = b.kind; first = b.first; second = b.second } };
 
-    ghost invariant = { λ b. IsHeld (kind_number b.kind) 0 b.first × IsHeld (kind_number b.kind) 1 b.second };
+    ghost invariant = { λ b. IsRecordHeld (kind_number b.kind) 0 b.first × IsRecordHeld (kind_number b.kind) 1 b.second };
 }
 
 /// A record's state at first.
 fn new_state() -> RecState
     ensures value { result ≡ new_state }
-    ensures held { (bank rec : ℕ) → IsHeld bank rec result }
+    ensures held { (bank rec : ℕ) → IsRecordHeld bank rec result }
 {
     RecState {
         kept: None,
@@ -100,34 +113,34 @@ fn bank_info(kind: BankKind) -> u64
 {
     let number = u64::from(kind.number());
     let count = u64::from(kind.record_count());
-    number + 0x1_0000 * count + 0x100_0000_0000_0000
+    number + RECORDS_UNIT * count + VERSION
 }
 
 /// What the registers after the status show of the kept event.
-fn kept_reg(kept: Option<RecordView>, place: u16) -> u64
-    ensures { result ≡ kept_register kept place }
+fn kept_reg(kept: Option<RecordView>, offset: u16) -> u64
+    ensures { result ≡ kept_register kept offset }
 {
     match kept {
         None => 0,
-        Some(view) if place == 16 => view.kept.addr,
-        Some(view) if place == 24 => view.kept.info,
-        Some(view) if place == 32 => view.kept.suppl,
+        Some(view) if offset == ADDR => view.kept.addr,
+        Some(view) if offset == INFO => view.kept.info,
+        Some(view) if offset == SUPPL => view.kept.suppl,
         Some(view) => view.kept.at,
     }
 }
 
 /// The registers of one record, by their offset from its first.
-fn record_reg(state: &RecState, place: u16) -> Option<u64>
+fn record_reg(state: &RecState, offset: u16) -> Option<u64>
     requires pri { PriFits state.now.kept }
     requires ces { state.now.control.ces < 4 }
     requires ueds { state.now.control.ueds < 4 }
     requires uecs { state.now.control.uecs < 4 }
-    ensures { result ≡ record_register state.now place }
+    ensures { result ≡ record_register state.now offset }
 {
-    match place {
+    match offset {
         0 => Some(control_bits(state.control, eid_of(state.staged))),
-        8 => Some(status_bits(state.kept.as_ref(), state.control.cece, state.rdip)),
-        16 | 24 | 32 | 40 => Some(kept_reg(state.kept, place)),
+        STATUS => Some(status_bits(state.kept.as_ref(), state.control.cece, state.rdip)),
+        ADDR | INFO | SUPPL | TIMESTAMP => Some(kept_reg(state.kept, offset)),
         _ => None,
     }
 }
@@ -145,7 +158,7 @@ impl Bank {
         }
     }
 
-    /// Of each record holds what `set_rec_state` asks for.
+    /// What `set_rec_state` asks for holds of each record.
     pub(crate) fn see_records(&self)
         ensures { AreHeld self.now }
     {
@@ -175,10 +188,12 @@ impl Bank {
     {
         match offset {
             0 => Some(0),
-            8 => Some(bank_info(self.kind)),
-            16 => Some(self.valid_summary()),
-            64..=127 => record_reg(&self.first, offset - 64),
-            128..=191 if self.kind != BankKind::Hart => record_reg(&self.second, offset - 128),
+            BANK_INFO => Some(bank_info(self.kind)),
+            VALID_SUMMARY => Some(self.valid_summary()),
+            CONTROL..SECOND_CONTROL => record_reg(&self.first, offset - CONTROL),
+            SECOND_CONTROL..RECORDS_END if self.kind != BankKind::Hart => {
+                record_reg(&self.second, offset - SECOND_CONTROL)
+            }
             _ => None,
         }
     }
@@ -201,10 +216,10 @@ impl Bank {
         ensures lists { (b : BankLists) → self.old ≡ bank_shown b → self.new ≡ bank_shown (lists_bank_written b offset v) }
     {
         let always_logs = self.kind == BankKind::Hart;
-        if offset == 64 {
+        if offset == CONTROL {
             self.first.write(always_logs, v);
             true
-        } else if offset == 128 && !always_logs {
+        } else if offset == SECOND_CONTROL && !always_logs {
             self.second.write(always_logs, v);
             true
         } else {
@@ -251,7 +266,7 @@ impl Bank {
     pub fn rec_state(&self, rec: u8) -> RecState
         requires { rec < record_count self.now.kind }
         ensures value { result ≡ record_at self.now rec }
-        ensures held { IsHeld (kind_number self.now.kind) rec result }
+        ensures held { IsRecordHeld (kind_number self.now.kind) rec result }
     {
         if rec == 0 {
             return self.first;
@@ -266,7 +281,7 @@ impl Bank {
     /// and nothing is staged.
     pub fn set_rec_state(&mut self, rec: u8, s: &RecState)
         requires rec { rec < record_count self.old.kind }
-        requires held { IsHeld (kind_number self.old.kind) rec s.now }
+        requires held { IsRecordHeld (kind_number self.old.kind) rec s.now }
         ensures state { self.new ≡ with_record self.old rec (λ _. s.now) }
         ensures lists { (b : BankLists) (r : RecordLists) → self.old ≡ bank_shown b → s.now ≡ shown r
             → self.new ≡ bank_shown (with_lists b rec (λ _. r)) }

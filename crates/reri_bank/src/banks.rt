@@ -1,7 +1,7 @@
 //! The three banks of a machine.
 
 ghost use Rattle.std.specs.Prelude.{◌≡◌, ◌<◌, ◌≤◌, None, IfSome};
-ghost use Rattle.reri_bank.specs.State.{IsHeld, RecordLists, shown};
+ghost use Rattle.reri_bank.specs.State.{IsRecordHeld, RecordLists, shown};
 ghost use Rattle.reri_bank.specs.BankState.{kind_number, AreHeld};
 ghost use Rattle.reri_bank.specs.Bank.{record_count, is_control_of, with_record, with_lists};
 ghost use Rattle.reri_bank.specs.Banks.{with_bank, with_bank_lists, records_of, BanksLists, banks_shown, banks_logged, lists_banks_logged, bank_at, new_banks, new_banks_lists, with_now, lists_with_now, first_critical, is_critical, banks_written, banks_staged, lists_banks_written, lists_banks_staged};
@@ -150,7 +150,7 @@ impl Banks {
     pub fn set_rec_state(&mut self, b: u8, rec: u8, s: &RecState)
         requires bank { b < 3 }
         requires rec { rec < records_of b }
-        requires held { IsHeld b rec s.now }
+        requires held { IsRecordHeld b rec s.now }
         ensures state { self.new ≡ with_bank self.old b (λ k. with_record k rec (λ _. s.now)) }
         ensures lists { (l : BanksLists) (r : RecordLists) → self.old ≡ banks_shown l → s.now ≡ shown r
             → self.new ≡ banks_shown (with_bank_lists l b (λ k. with_lists k rec (λ _. r))) }

@@ -3,11 +3,61 @@
 ghost use Rattle.std.specs.Prelude.{◌≡◌, ◌<◌, ℕ, Bool, true, Some, IfSome};
 ghost use Rattle.std.specs.Option.{option_copied};
 ghost use Rattle.poison_mem.specs.declared.event.RecordView.{RecordView};
-ghost use Rattle.reri_bank.specs.Layout.{bit, control_word, control_value, status_word, status_of_view, shown_count, number_of, stands_for_record, view_value, with_handed};
-ghost use Rattle.reri_bank.specs.Views.{greatest_flag, IsSound, PriFits};
+ghost use Rattle.reri_bank.specs.Layout.{control_word, control_value, status_word, status_of_view, shown_count, stands_for_record, view_value, with_handed};
+ghost use Rattle.poison_mem.specs.RecordView.{greatest_flag, IsSoundView};
+ghost use Rattle.reri_bank.specs.Views.{PriFits};
 
+use crate::record::MOST_COUNTED;
 use poison_mem::{Class, Event, RecordView};
-use ras_bits::get_field;
+use ras_bits::{get_field, has_bit};
+
+/// The offset of the register that describes a bank.
+pub const BANK_INFO: u16 = 8;
+
+/// The offset of the register that says which records are valid.
+pub const VALID_SUMMARY: u16 = 16;
+
+/// The offset of the first record's control register. The other registers of a record come behind its own.
+pub const CONTROL: u16 = 64;
+
+/// How far a record's registers lie behind those of the record before it.
+pub const STRIDE: u16 = 64;
+
+/// The offset of a record's status register from its control register.
+pub const STATUS: u16 = 8;
+
+/// The offset of the kept event's address from its record's control register.
+pub const ADDR: u16 = 16;
+
+/// The offset of what the kept event tells besides, likewise.
+pub const INFO: u16 = 24;
+
+/// The offset of what it tells besides that, likewise.
+pub const SUPPL: u16 = 32;
+
+/// The offset of the step of the kept event, likewise.
+pub const TIMESTAMP: u16 = 40;
+
+/// The bit of a control register that empties a record.
+pub const SINV: u32 = 32;
+
+/// The bit of a control register that marks a record as read.
+pub const SRDP: u32 = 33;
+
+/// The bit of a status register that says that its record was read.
+pub const RDIP: u32 = 8;
+
+// What `v` and `av`, another flag, and a field's unit are in a status register.
+pub(crate) const VALID_FLAGS: u64 = 1 + (1 << 10);
+
+pub(crate) const RDIP_FLAG: u64 = 1 << RDIP;
+
+pub(crate) const SCRUB_FLAG: u64 = 1 << 9;
+
+pub(crate) const CODE_UNIT: u64 = 1 << 16;
+
+// The unit of bits 63:48: in a status register the number of corrected errors, in a control register the steps left.
+pub(crate) const TOP_UNIT: u64 = 1 << 48;
 
 /// What a record does with its events: bits 7:0 of its control register.
 #[derive(Clone, Copy, Debug, PartialEq, Eq)]
@@ -22,14 +72,6 @@ pub struct Control {
     pub ueds: u8,
     /// How critical errors are signalled, likewise.
     pub uecs: u8,
-}
-
-/// One bit of a register.
-pub(crate) fn bit(value: u64, place: u32) -> bool
-    requires { place < 64 }
-    ensures { result ≡ bit value place }
-{
-    get_field(value, place, 1) == 1
 }
 
 /// The control register with the fields of `c`, and in bits 63:48 the steps left of a staged injection.
@@ -47,7 +89,7 @@ pub fn control_bits(c: Control, eid: u16) -> u64
         + 0x4 * u64::from(c.ces)
         + 0x10 * u64::from(c.ueds)
         + 0x40 * u64::from(c.uecs)
-        + 0x1_0000_0000_0000 * u64::from(eid)
+        + TOP_UNIT * u64::from(eid)
 }
 
 /// What bits 7:0 of a control register say.
@@ -58,8 +100,8 @@ pub fn control_of(v: u64) -> Control
     ensures uecs { result.uecs < 4 }
 {
     Control {
-        logging: bit(v, 0),
-        cece: bit(v, 1),
+        logging: has_bit(v, 0),
+        cece: has_bit(v, 1),
         ces: get_field(v, 2, 2) as u8,
         ueds: get_field(v, 4, 2) as u8,
         uecs: get_field(v, 6, 2) as u8,
@@ -73,13 +115,6 @@ fn shown_count(view: &RecordView, cece: bool) -> u16
     if cece { view.cec } else { 0 }
 }
 
-/// A bit as a number.
-fn number_of(is_set: bool) -> u64
-    ensures { result ≡ number_of is_set }
-{
-    if is_set { 1 } else { 0 }
-}
-
 /// The status register of a view.
 fn status_of_view(view: &RecordView, cece: bool, rdip: bool) -> u64
     requires { view.now.kept.pri < 4 }
@@ -88,17 +123,17 @@ fn status_of_view(view: &RecordView, cece: bool, rdip: bool) -> u64
     let code = view.kept.code;
     let pri = view.kept.pri;
     let count = shown_count(view, cece);
-    0x401
-        + 0x2 * number_of(view.ce)
-        + 0x4 * number_of(view.ued)
-        + 0x8 * number_of(view.uec)
+    VALID_FLAGS
+        + 0x2 * u64::from(view.ce)
+        + 0x4 * u64::from(view.ued)
+        + 0x8 * u64::from(view.uec)
         + 0x10 * u64::from(pri)
-        + 0x40 * number_of(view.mo)
-        + 0x80 * number_of(view.ceco & cece)
-        + 0x100 * number_of(rdip)
-        + 0x200 * number_of(view.kept.scrub)
-        + 0x1_0000 * u64::from(code)
-        + 0x1_0000_0000_0000 * u64::from(count)
+        + 0x40 * u64::from(view.mo)
+        + 0x80 * u64::from(view.ceco & cece)
+        + RDIP_FLAG * u64::from(rdip)
+        + SCRUB_FLAG * u64::from(view.kept.scrub)
+        + CODE_UNIT * u64::from(code)
+        + TOP_UNIT * u64::from(count)
 }
 
 /// The status register of a record that keeps this view, or 0 of an empty one.
@@ -118,11 +153,11 @@ pub fn status_bits(v: Option<&RecordView>, cece: bool, rdip: bool) -> u64
 fn stands_for_record(status: u64) -> bool
     ensures { result ≡ stands_for_record status }
 {
-    let is_valid = bit(status, 0) & bit(status, 10);
-    let is_flagged = bit(status, 1) | bit(status, 2) | bit(status, 3);
+    let is_valid = has_bit(status, 0) & has_bit(status, 10);
+    let is_flagged = has_bit(status, 1) | has_bit(status, 2) | has_bit(status, 3);
     let is_clear = (get_field(status, 11, 5) == 0) & (get_field(status, 24, 24) == 0);
-    let is_full = get_field(status, 48, 16) == 65535;
-    is_valid & is_flagged & is_clear & (!bit(status, 7) | is_full)
+    let is_full = get_field(status, 48, 16) == u64::from(MOST_COUNTED);
+    is_valid & is_flagged & is_clear & (!has_bit(status, 7) | is_full)
 }
 
 /// The greatest class that is flagged, where one is.
@@ -152,20 +187,20 @@ pub fn view_of(
     rec: u8,
 ) -> Option<RecordView>
     ensures value { result ≡ view_value status addr info suppl time bank rec }
-    ensures sound { IfSome result IsSound }
+    ensures sound { IfSome result IsSoundView }
 {
     if !stands_for_record(status) {
         return None;
     }
-    let ued = bit(status, 2);
-    let uec = bit(status, 3);
+    let ued = has_bit(status, 2);
+    let uec = has_bit(status, 3);
     let kept = Event {
         bank,
         rec,
         class: greatest_flag(ued, uec),
         pri: get_field(status, 4, 2) as u8,
         code: get_field(status, 16, 8) as u8,
-        scrub: bit(status, 9),
+        scrub: has_bit(status, 9),
         addr,
         info,
         suppl,
@@ -173,18 +208,18 @@ pub fn view_of(
     };
     Some(RecordView {
         kept,
-        ce: bit(status, 1),
+        ce: has_bit(status, 1),
         ued,
         uec,
-        mo: bit(status, 6),
+        mo: has_bit(status, 6),
         cec: get_field(status, 48, 16) as u16,
-        ceco: bit(status, 7),
+        ceco: has_bit(status, 7),
     })
 }
 
 /// Of a sound view the status register, with its count shown, gives that view back, with what the other registers hand.
 pub fn views_come_back_from_their_registers(v: &RecordView)
-    ensures { IsSound v.now → (rdip : Bool) (addr info suppl time bank rec : ℕ) →
+    ensures { IsSoundView v.now → (rdip : Bool) (addr info suppl time bank rec : ℕ) →
         view_value (status_word (Some v.now) true rdip) addr info suppl time bank rec
         ≡ Some (with_handed v.now addr info suppl time bank rec) }
 {

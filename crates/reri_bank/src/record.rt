@@ -1,13 +1,16 @@
 //! One record of a bank.
 
 ghost use Rattle.std.specs.Prelude.{◌≡◌};
-ghost use Rattle.reri_bank.specs.Record.{severity, with_event, ranks_above, more_after, count_after, passed_after};
+ghost use Rattle.reri_bank.specs.Record.{rank, with_event, ranks_above, more_after, count_after, passed_after};
 
 use poison_mem::{Class, Event, RecordView};
 
-/// The place of a class in the rising order.
-fn severity(class: Class) -> u8
-    ensures { result ≡ severity class }
+/// The most corrected errors that a record counts.
+pub(crate) const MOST_COUNTED: u16 = u16::MAX;
+
+/// The rank of a class in the rising order.
+fn rank(class: Class) -> u8
+    ensures { result ≡ rank class }
 {
     match class {
         Class::Corrected => 0,
@@ -20,8 +23,8 @@ fn severity(class: Class) -> u8
 fn ranks_above(event: &Event, kept: &Event) -> bool
     ensures { result ≡ ranks_above event.now kept.now }
 {
-    let new = severity(event.class);
-    let old = severity(kept.class);
+    let new = rank(event.class);
+    let old = rank(kept.class);
     old < new || (new == old && kept.pri < event.pri)
 }
 
@@ -29,8 +32,8 @@ fn ranks_above(event: &Event, kept: &Event) -> bool
 fn more_after(view: &RecordView, class: Class) -> bool
     ensures { result ≡ more_after view.now class }
 {
-    let new = severity(class);
-    let old = severity(view.kept.class);
+    let new = rank(class);
+    let old = rank(view.kept.class);
     if old < new {
         false
     } else {
@@ -43,7 +46,7 @@ fn count_after(view: &RecordView, class: Class) -> u16
     ensures { result ≡ count_after view.now class }
 {
     match class {
-        Class::Corrected if view.cec < 65535 => view.cec + 1,
+        Class::Corrected if view.cec < MOST_COUNTED => view.cec + 1,
         _ => view.cec,
     }
 }
@@ -53,7 +56,7 @@ fn passed_after(view: &RecordView, class: Class) -> bool
     ensures { result ≡ passed_after view.now class }
 {
     match class {
-        Class::Corrected if view.cec == 65535 => true,
+        Class::Corrected if view.cec == MOST_COUNTED => true,
         _ => view.ceco,
     }
 }

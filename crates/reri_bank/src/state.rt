@@ -2,12 +2,13 @@
 
 ghost use Rattle.std.specs.Prelude.{◌≡◌, ◌==◌, ◌<◌, ℕ};
 ghost use Rattle.poison_mem.specs.declared.event.Event.{Event};
-ghost use Rattle.reri_bank.specs.State.{RecordLists, shown, state_logged, lists_logged, state_emptied, lists_emptied, state_marked, lists_marked, state_written, lists_written, IsHeld};
+ghost use Rattle.reri_bank.specs.State.{RecordLists, shown, state_logged, lists_logged, state_emptied, lists_emptied, state_marked, lists_marked, state_written, lists_written, IsRecordHeld};
 ghost use Rattle.reri_bank.specs.Views.{IsOf};
 
-use crate::layout::{Control, bit, control_of};
+use crate::layout::{Control, SINV, SRDP, control_of};
 use crate::record::with_event;
 use poison_mem::{Class, Event, RecordView};
+use ras_bits::has_bit;
 
 /// An injection that waits for its step.
 #[derive(Clone, Copy, Debug, PartialEq, Eq)]
@@ -38,7 +39,7 @@ impl RecState {
     pub(crate) fn log(&mut self, event: Event)
         ensures state { self.new ≡ state_logged self.old event }
         ensures lists { (r : RecordLists) → self.old ≡ shown r → self.new ≡ shown (lists_logged r event) }
-        ensures held { (bank rec : ℕ) → IsOf bank rec event → event.pri < 4 → IsHeld bank rec self.old → IsHeld bank rec self.new }
+        ensures held { (bank rec : ℕ) → IsOf bank rec event → event.pri < 4 → IsRecordHeld bank rec self.old → IsRecordHeld bank rec self.new }
     {
         if self.control.logging {
             self.kept = Some(with_event(self.kept, event));
@@ -50,7 +51,7 @@ impl RecState {
     pub(crate) fn empty(&mut self)
         ensures state { self.new ≡ state_emptied self.old }
         ensures lists { (r : RecordLists) → self.old ≡ shown r → self.new ≡ shown (lists_emptied r) }
-        ensures held { (bank rec : ℕ) → IsHeld bank rec self.old → IsHeld bank rec self.new }
+        ensures held { (bank rec : ℕ) → IsRecordHeld bank rec self.old → IsRecordHeld bank rec self.new }
     {
         if self.rdip {
             self.kept = None;
@@ -62,7 +63,7 @@ impl RecState {
     pub(crate) fn mark(&mut self)
         ensures state { self.new ≡ state_marked self.old }
         ensures lists { (r : RecordLists) → self.old ≡ shown r → self.new ≡ shown (lists_marked r) }
-        ensures held { (bank rec : ℕ) → IsHeld bank rec self.old → IsHeld bank rec self.new }
+        ensures held { (bank rec : ℕ) → IsRecordHeld bank rec self.old → IsRecordHeld bank rec self.new }
     {
         if self.kept.is_some() {
             self.rdip = true;
@@ -73,15 +74,15 @@ impl RecState {
     pub(crate) fn write(&mut self, always_logs: bool, value: u64)
         ensures state { self.new ≡ state_written always_logs self.old value }
         ensures lists { (r : RecordLists) → self.old ≡ shown r → self.new ≡ shown (lists_written always_logs r value) }
-        ensures held { (bank rec : ℕ) → (bank == 2) ≡ always_logs → IsHeld bank rec self.old → IsHeld bank rec self.new }
+        ensures held { (bank rec : ℕ) → (bank == 2) ≡ always_logs → IsRecordHeld bank rec self.old → IsRecordHeld bank rec self.new }
     {
         let mut control = control_of(value);
         control.logging = control.logging | always_logs;
         self.control = control;
-        if bit(value, 32) {
+        if has_bit(value, SINV) {
             self.empty();
         }
-        if bit(value, 33) {
+        if has_bit(value, SRDP) {
             self.mark();
         }
     }

@@ -3,40 +3,13 @@ use Rattle.std.proofs.Common.{◌≡◌, ℕ, ◌+◌, ◌-◌, nat_lt, Bool, tr
 use Rattle.poison_mem.specs.declared.event.Event.{Event}
 use Rattle.reri_bank.specs.declared.state.RecState.{RecState}
 use Rattle.reri_bank.specs.declared.state.Staged.{Staged}
-use Rattle.reri_bank.specs.BanksState.{BanksState}
 use Rattle.reri_bank.specs.State.{state_logged}
 use Rattle.reri_bank.specs.Record.{with_event}
 use Rattle.reri_bank.specs.Bank.{state_staged}
-use Rattle.reri_inject.specs.Due.{Counted, Rests, Waits, Fires, counted, Call, Stage, CountDown, AllDelayed, Handed, fired, left_of, handed, lines_of, due_until, last_step}
-use Rattle.reri_inject.specs.Inject.{counted_as, counted_record, counted_down, state_as, each_counted, record_run, all_logged, event_of, apart}
+use Rattle.reri_inject.specs.Due.{Counted, Rests, Waits, Fires, counted, InjectCall, Stage, CountDown, Handed, fired, left_staged, handed, inject_lines, due_until, last_step, IsDelayed}
+use Rattle.reri_inject.specs.Inject.{state_as, record_run, all_logged, handed_event, apart}
 use Rattle.reri_inject.proofs.Handing.{handed_is_due}
-
-demand : (b : BanksState) (c : Counted) → counted_as c b 0 0 ≡ record { memory = record { kind = b.memory.kind; first = state_as c b.step 0 0 b.memory.first; second = b.memory.second }; caches = b.caches; hart = b.hart; step = b.step }
-demand b Rests = refl
-demand b (Waits t) = refl
-demand b (Fires t) = refl
-
-scrub : (b : BanksState) (c : Counted) → counted_as c b 0 1 ≡ record { memory = record { kind = b.memory.kind; first = b.memory.first; second = state_as c b.step 0 1 b.memory.second }; caches = b.caches; hart = b.hart; step = b.step }
-scrub b Rests = refl
-scrub b (Waits t) = refl
-scrub b (Fires t) = refl
-
-first_level : (b : BanksState) (c : Counted) → counted_as c b 1 0 ≡ record { memory = b.memory; caches = record { kind = b.caches.kind; first = state_as c b.step 1 0 b.caches.first; second = b.caches.second }; hart = b.hart; step = b.step }
-first_level b Rests = refl
-first_level b (Waits t) = refl
-first_level b (Fires t) = refl
-
-second_level : (b : BanksState) (c : Counted) → counted_as c b 1 1 ≡ record { memory = b.memory; caches = record { kind = b.caches.kind; first = b.caches.first; second = state_as c b.step 1 1 b.caches.second }; hart = b.hart; step = b.step }
-second_level b Rests = refl
-second_level b (Waits t) = refl
-second_level b (Fires t) = refl
-
-pub each : (b : BanksState) → counted_down b ≡ each_counted b
-each b =
-    ap (λ (x : BanksState). counted_record (counted_record (counted_record x 0 1) 1 0) 1 1) (demand b (counted b.memory.first.staged))
-    ∙ ap (λ (x : BanksState). counted_record (counted_record x 1 0) 1 1) (scrub _ (counted b.memory.second.staged))
-    ∙ ap (λ (x : BanksState). counted_record x 1 1) (first_level _ (counted b.caches.first.staged))
-    ∙ second_level _ (counted b.caches.second.staged)
+use Rattle.std.specs.List.{AllByRecursion}
 
 -- what is staged doesn't matter to the rest
 with_parts : (b : Bool) (s : RecState) (t : Option Staged) (e : Event) → cond b (record { kept = Some (with_event s.kept e); rdip = false; control = s.control; staged = None }) (apart s) ≡ apart (cond b (record { kept = Some (with_event s.kept e); rdip = false; control = s.control; staged = t }) (state_staged t s))
@@ -49,15 +22,15 @@ logged_apart s e = with_parts s.control.logging s s.staged e
 apart_all : (bank rec : ℕ) (s t : RecState) (hs : List Handed) → apart s ≡ apart t → apart (all_logged bank rec s hs) ≡ apart (all_logged bank rec t hs)
 apart_all bank rec s t [] e = e
 apart_all bank rec s t (h ∷ hs) e =
-    apart_all bank rec (state_logged s (event_of bank rec h)) (state_logged t (event_of bank rec h)) hs
-    (sym (logged_apart s (event_of bank rec h)) ∙ ap (λ (u : RecState). state_logged u (event_of bank rec h)) e ∙ logged_apart t (event_of bank rec h))
+    apart_all bank rec (state_logged s (handed_event bank rec h)) (state_logged t (handed_event bank rec h)) hs
+    (sym (logged_apart s (handed_event bank rec h)) ∙ ap (λ (u : RecState). state_logged u (handed_event bank rec h)) e ∙ logged_apart t (handed_event bank rec h))
 
 staged_logged : (b : Bool) (s : RecState) (e : Event) → (cond b (record { kept = Some (with_event s.kept e); rdip = false; control = s.control; staged = None }) (state_staged None s)).staged ≡ None
 staged_logged true s e = refl
 staged_logged false s e = refl
 
 record Step (bank rec step : ℕ) (s : RecState) (c : Counted) : Type 0 where
-  staged : (state_as c step bank rec s).staged ≡ left_of c
+  staged : (state_as c step bank rec s).staged ≡ left_staged c
   rest : apart (state_as c step bank rec s) ≡ apart (all_logged bank rec s (fired step c))
 
 one_step : (bank rec step : ℕ) (s : RecState) (c : Counted) → (c ≡ Rests → s.staged ≡ None) → Step bank rec step s c
@@ -67,7 +40,7 @@ one_step bank rec step s (Fires t) h = record { staged = staged_logged s.control
 
 all_append : (bank rec : ℕ) (s : RecState) (hs ks : List Handed) → all_logged bank rec s (hs ++ ks) ≡ all_logged bank rec (all_logged bank rec s hs) ks
 all_append bank rec s [] ks = refl
-all_append bank rec s (h ∷ hs) ks = all_append bank rec (state_logged s (event_of bank rec h)) hs ks
+all_append bank rec s (h ∷ hs) ks = all_append bank rec (state_logged s (handed_event bank rec h)) hs ks
 
 rests_none : (staged : Option Staged) → counted staged ≡ Rests → staged ≡ None
 rests_none None h = refl
@@ -77,7 +50,7 @@ rests_none (Some s) h = rests_by (nat_lt 1 s.left) (record { class = s.class; ad
     rests_by true x y e = cc
     rests_by false x y e = cc
 
-pub run_logs : (bank rec step : ℕ) (calls : List Call) (s : RecState) → apart (record_run bank rec step calls s) ≡ apart (all_logged bank rec s (handed step s.staged calls))
+pub run_logs : (bank rec step : ℕ) (calls : List InjectCall) (s : RecState) → apart (record_run bank rec step calls s) ≡ apart (all_logged bank rec s (handed step s.staged calls))
 run_logs bank rec step [] s = refl
 run_logs bank rec step (Stage d i ∷ calls) s =
     let t : Staged = record { class = i.class; addr = i.addr; left = d } in
@@ -89,10 +62,10 @@ run_logs bank rec step (CountDown ∷ calls) s =
     let after = state_as c (step + 1) bank rec s in
     run_logs bank rec (step + 1) calls after
     ∙ ap (λ (t : Option Staged). apart (all_logged bank rec after (handed (step + 1) t calls))) one.staged
-    ∙ apart_all bank rec after (all_logged bank rec s (fired (step + 1) c)) (handed (step + 1) (left_of c) calls) one.rest
-    ∙ ap apart (sym (all_append bank rec s (fired (step + 1) c) (handed (step + 1) (left_of c) calls)))
+    ∙ apart_all bank rec after (all_logged bank rec s (fired (step + 1) c)) (handed (step + 1) (left_staged c) calls) one.rest
+    ∙ ap apart (sym (all_append bank rec s (fired (step + 1) c) (handed (step + 1) (left_staged c) calls)))
 
-pub logs_due : (bank rec step : ℕ) (calls : List Call) (s : RecState) → AllDelayed calls → s.staged ≡ None → apart (record_run bank rec step calls s) ≡ apart (all_logged bank rec s (due_until (last_step step calls) (lines_of step calls)))
+pub logs_due : (bank rec step : ℕ) (calls : List InjectCall) (s : RecState) → AllByRecursion IsDelayed calls → s.staged ≡ None → apart (record_run bank rec step calls s) ≡ apart (all_logged bank rec s (due_until (last_step step calls) (inject_lines step calls)))
 logs_due bank rec step calls s delayed h =
     run_logs bank rec step calls s
     ∙ ap (λ (t : Option Staged). apart (all_logged bank rec s (handed step t calls))) h

@@ -1,10 +1,11 @@
 //! Staging an injection, and counting down.
 
 ghost use Rattle.std.specs.Prelude.{◌≡◌, ◌<◌, ◌≤◌, Some};
-ghost use Rattle.reri_bank.specs.Banks.{banks_staged};
-ghost use Rattle.reri_inject.specs.Inject.{staged_now, injected, counted_record, counted_down, each_counted};
+ghost use Rattle.reri_bank.specs.Banks.{banks_staged, with_bank};
+ghost use Rattle.reri_bank.specs.Bank.{with_record};
+ghost use Rattle.reri_inject.specs.Inject.{staged_now, injected, state_counted, each_counted};
 
-use poison_mem::{Class, Event, EventLog};
+use poison_mem::{Class, Event, EventKind, EventLog};
 use reri_bank::{Banks, Staged};
 
 /// Stages an injection into a record of bank 0 or 1, in place of one that waits there: after `delay` calls of
@@ -29,25 +30,14 @@ pub fn stage(banks: &mut Banks, bank: u8, rec: u8, class: Class, delay: u16, add
 fn injected(bank: u8, rec: u8, staged: Staged) -> Event
     ensures { result ≡ injected bank rec staged }
 {
-    Event {
-        bank,
-        rec,
-        class: staged.class,
-        pri: 0,
-        code: 5,
-        scrub: bank == 0 && rec == 1,
-        addr: staged.addr,
-        info: 0,
-        suppl: 0,
-        at: 0,
-    }
+    Event::new(EventKind::Injected(staged.class), bank, rec, staged.addr)
 }
 
 /// Lowers the staged count of a record by one. Where it reaches 0 the injection is logged.
 fn count_record(banks: &mut Banks, bank: u8, rec: u8)
     requires bank { bank < 2 }
     requires rec { rec < 2 }
-    ensures { banks.new ≡ counted_record banks.old bank rec }
+    ensures { banks.new ≡ with_bank banks.old bank (λ k. with_record k rec (state_counted banks.old.step bank rec)) }
 {
     match banks.bank(bank).staged(rec) {
         None => {}
@@ -65,8 +55,7 @@ fn count_record(banks: &mut Banks, bank: u8, rec: u8)
 /// Lowers each staged count by one, in the order of banks and records. One that reaches 0 is taken away and logged as an
 /// event.
 pub fn count_down(banks: &mut Banks)
-    ensures in_order { banks.new ≡ counted_down banks.old }
-    ensures each { banks.new ≡ each_counted banks.old }
+    ensures { banks.new ≡ each_counted banks.old }
 {
     count_record(banks, 0, 0);
     count_record(banks, 0, 1);

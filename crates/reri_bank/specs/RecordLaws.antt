@@ -4,7 +4,8 @@ use Rattle.std.proofs.lemmas.Grind.{common_steps}
 use Rattle.std.specs.Option.{option_map}
 use Rattle.poison_mem.specs.declared.event.Event.{Event}
 use Rattle.poison_mem.specs.declared.event.RecordView.{RecordView}
-use Rattle.reri_bank.specs.Record.{severity, ranks_above, kept_with, kept_of, of_class, view_of_events, rec_of, with_event}
+use Rattle.reri_bank.specs.declared.record.TheConstants.{MOST_COUNTED}
+use Rattle.reri_bank.specs.Record.{rank, ranks_above, kept_with, kept_of, of_class, view_of_events, rec_of, with_event}
 
 -- what ranks above what ranks above x ranks above x
 both_above : (e k x : Event) → ranks_above e k ≡ true → ranks_above k x ≡ true → ranks_above e x ≡ true
@@ -25,13 +26,13 @@ below_both se sk sx pe pk px (inr h) (inr k) = inr (omega arith, omega arith)
 
 neither_above : (e k x : Event) → ranks_above e k ≡ false → ranks_above k x ≡ false → ranks_above e x ≡ false
 neither_above e k x p q =
-    not_above_by (severity e.class) (severity x.class) e.pri x.pri
-    (below_both (severity e.class) (severity k.class) (severity x.class) e.pri k.pri x.pri
-    (not_above (severity e.class) (severity k.class) e.pri k.pri p)
-    (not_above (severity k.class) (severity x.class) k.pri x.pri q))
+    not_above_by (rank e.class) (rank x.class) e.pri x.pri
+    (below_both (rank e.class) (rank k.class) (rank x.class) e.pri k.pri x.pri
+    (not_above (rank e.class) (rank k.class) e.pri k.pri p)
+    (not_above (rank k.class) (rank x.class) k.pri x.pri q))
 
 -- what is kept, by one event more at the end
-abbrev pub later : Option Event → Event → Event
+abbrev later : Option Event → Event → Event
 later None e = e
 later (Some k) e = cond (ranks_above e k) e k
 
@@ -56,32 +57,32 @@ pub kept_of-append : (es : List Event) (e : Event) → kept_of (es ++ e ∷ []) 
 kept_of-append [] e = refl
 kept_of-append (x ∷ es) e = ap (λ k. Some (kept_with x k)) (kept_of-append es e) ∙ ap Some (swapped x e (kept_of es))
 
-pub of_class-append : (class : ℕ) (es : List Event) (e : Event) → of_class class (es ++ e ∷ []) ≡ of_class class es + cond (severity e.class == class) 1 0
+pub of_class-append : (class : ℕ) (es : List Event) (e : Event) → of_class class (es ++ e ∷ []) ≡ of_class class es + cond (rank e.class == class) 1 0
 of_class-append class [] e = omega arith
 of_class-append class (x ∷ es) e = omega (arith, of_class-append class es e)
 
 -- the kept event is one of the events
-occurs_with : (x : Event) (k : Option Event) (es : List Event) → ((k' : Event) → k ≡ Some k' → 1 ≤ of_class (severity k'.class) es) → 1 ≤ of_class (severity (kept_with x k).class) (x ∷ es)
+occurs_with : (x : Event) (k : Option Event) (es : List Event) → ((k' : Event) → k ≡ Some k' → 1 ≤ of_class (rank k'.class) es) → 1 ≤ of_class (rank (kept_with x k).class) (x ∷ es)
 occurs_with x None es h = grind arith
 occurs_with x (Some k) es h =
-    let there : 1 ≤ of_class (severity k.class) es = h k refl in
-    let here : 1 ≤ of_class (severity x.class) (x ∷ es) = grind arith in
-    let after : 1 ≤ of_class (severity k.class) (x ∷ es) = omega (arith, there) in
-    let P : Event → Type 0 = λ v. 1 ≤ of_class (severity v.class) (x ∷ es) in
+    let there : 1 ≤ of_class (rank k.class) es = h k refl in
+    let here : 1 ≤ of_class (rank x.class) (x ∷ es) = grind arith in
+    let after : 1 ≤ of_class (rank k.class) (x ∷ es) = omega (arith, there) in
+    let P : Event → Type 0 = λ v. 1 ≤ of_class (rank v.class) (x ∷ es) in
     by_truth (ranks_above k x)
     (λ p. let is : k ≡ kept_with x (Some k) = rw p refl in subst P is after)
     (λ p. let is : x ≡ kept_with x (Some k) = rw p refl in subst P is here)
 
-pub kept_occurs : (x : Event) (es : List Event) → 1 ≤ of_class (severity (kept_with x (kept_of es)).class) (x ∷ es)
+pub kept_occurs : (x : Event) (es : List Event) → 1 ≤ of_class (rank (kept_with x (kept_of es)).class) (x ∷ es)
 kept_occurs x [] = grind arith
 kept_occurs x (y ∷ es) = occurs_with x (Some (kept_with y (kept_of es))) (y ∷ es) (λ k e. let h = kept_occurs y es in grind (arith, common_steps))
 
 -- no event has a greater class
-none_with : (c : ℕ) (x k : Event) (n : ℕ) → (severity k.class < c → n ≡ 0) → severity (kept_with x (Some k)).class < c → cond (severity x.class == c) 1 0 + n ≡ 0
+none_with : (c : ℕ) (x k : Event) (n : ℕ) → (rank k.class < c → n ≡ 0) → rank (kept_with x (Some k)).class < c → cond (rank x.class == c) 1 0 + n ≡ 0
 none_with c x k n h p =
-    by_truth (ranks_above k x) (λ q. let p' : severity k.class < c = rw q at p in grind arith) (λ q. let p' : severity x.class < c = rw q at p in grind arith)
+    by_truth (ranks_above k x) (λ q. let p' : rank k.class < c = rw q at p in grind arith) (λ q. let p' : rank x.class < c = rw q at p in grind arith)
 
-pub none_above : (c : ℕ) (x : Event) (es : List Event) → severity (kept_with x (kept_of es)).class < c → of_class c (x ∷ es) ≡ 0
+pub none_above : (c : ℕ) (x : Event) (es : List Event) → rank (kept_with x (kept_of es)).class < c → of_class c (x ∷ es) ≡ 0
 none_above c x [] p = grind arith
 none_above c x (y ∷ es) p = none_with c x (kept_with y (kept_of es)) (of_class c (y ∷ es)) (none_above c y es) p
 
@@ -89,21 +90,21 @@ some_more : (n : ℕ) (b : Bool) → nat_lt 0 (n + cond b 1 0) ≡ (nat_lt 0 n |
 some_more n true = grind arith
 some_more n false = grind arith
 
-counted : (n : ℕ) (b : Bool) → min (n + cond b 1 0) 65535 ≡ cond (b && nat_lt (min n 65535) 65535) (min n 65535 + 1) (min n 65535)
+counted : (n : ℕ) (b : Bool) → min (n + cond b 1 0) MOST_COUNTED ≡ cond (b && nat_lt (min n MOST_COUNTED) MOST_COUNTED) (min n MOST_COUNTED + 1) (min n MOST_COUNTED)
 counted n true = grind arith
 counted n false = grind arith
 
-passed : (n : ℕ) (b : Bool) → nat_lt 65535 (n + cond b 1 0) ≡ cond (b && (min n 65535 == 65535)) true (nat_lt 65535 n)
+passed : (n : ℕ) (b : Bool) → nat_lt MOST_COUNTED (n + cond b 1 0) ≡ cond (b && (min n MOST_COUNTED == MOST_COUNTED)) true (nat_lt MOST_COUNTED n)
 passed n true = grind arith
 passed n false = grind arith
 
-more : (k e : Event) (es : List Event) → 1 ≤ of_class (severity k.class) es → ((c : ℕ) → severity k.class < c → of_class c es ≡ 0)
-    → nat_lt 1 (of_class (severity (cond (ranks_above e k) e k).class) es + cond (severity e.class == severity (cond (ranks_above e k) e k).class) 1 0)
-    ≡ cond (nat_lt (severity k.class) (severity e.class)) false (nat_lt 1 (of_class (severity k.class) es) || (severity e.class == severity k.class))
+more : (k e : Event) (es : List Event) → 1 ≤ of_class (rank k.class) es → ((c : ℕ) → rank k.class < c → of_class c es ≡ 0)
+    → nat_lt 1 (of_class (rank (cond (ranks_above e k) e k).class) es + cond (rank e.class == rank (cond (ranks_above e k) e k).class) 1 0)
+    ≡ cond (nat_lt (rank k.class) (rank e.class)) false (nat_lt 1 (of_class (rank k.class) es) || (rank e.class == rank k.class))
 more k e es some none =
-    let above = none (severity e.class) in
+    let above = none (rank e.class) in
     by_truth (ranks_above e k)
-    (λ p. rw p (by_truth (severity e.class == severity k.class)
+    (λ p. rw p (by_truth (rank e.class == rank k.class)
     (λ q. grind arith)
     (λ q. grind arith)))
     (λ p. rw p (grind arith))
@@ -114,18 +115,18 @@ pub same_view : (k : Event) (a a' b b' c c' m m' o o' : Bool) (n n' : ℕ) → a
     ≡ record { kept = k; ce = a'; ued = b'; uec = c'; mo = m'; cec = n'; ceco = o' }
 same_view k a a' b b' c c' m m' o o' n n' p q r s t u = cc
 
-view_step : (es : List Event) (k e : Event) → 1 ≤ of_class (severity k.class) es → ((c : ℕ) → severity k.class < c → of_class c es ≡ 0)
+view_step : (es : List Event) (k e : Event) → 1 ≤ of_class (rank k.class) es → ((c : ℕ) → rank k.class < c → of_class c es ≡ 0)
     → view_of_events (es ++ e ∷ []) (cond (ranks_above e k) e k) ≡ with_event (Some (view_of_events es k)) e
 unfolding with_event
 view_step es k e some none =
     let of = λ (c : ℕ). of_class-append c es e in
     same_view (cond (ranks_above e k) e k) _ _ _ _ _ _ _ _ _ _ _ _
-    (ap (nat_lt 0) (of 0) ∙ some_more (of_class 0 es) (severity e.class == 0))
-    (ap (nat_lt 0) (of 1) ∙ some_more (of_class 1 es) (severity e.class == 1))
-    (ap (nat_lt 0) (of 2) ∙ some_more (of_class 2 es) (severity e.class == 2))
-    (ap (nat_lt 1) (of (severity (cond (ranks_above e k) e k).class)) ∙ more k e es some none)
-    (ap (λ n. min n 65535) (of 0) ∙ counted (of_class 0 es) (severity e.class == 0))
-    (ap (nat_lt 65535) (of 0) ∙ passed (of_class 0 es) (severity e.class == 0))
+    (ap (nat_lt 0) (of 0) ∙ some_more (of_class 0 es) (rank e.class == 0))
+    (ap (nat_lt 0) (of 1) ∙ some_more (of_class 1 es) (rank e.class == 1))
+    (ap (nat_lt 0) (of 2) ∙ some_more (of_class 2 es) (rank e.class == 2))
+    (ap (nat_lt 1) (of (rank (cond (ranks_above e k) e k).class)) ∙ more k e es some none)
+    (ap (λ n. min n MOST_COUNTED) (of 0) ∙ counted (of_class 0 es) (rank e.class == 0))
+    (ap (nat_lt MOST_COUNTED) (of 0) ∙ passed (of_class 0 es) (rank e.class == 0))
 
 one_event : (e : Event) → rec_of (e ∷ []) ≡ Some (with_event None e)
 unfolding with_event
