@@ -4,4 +4,3 @@ pub mod Cells
 pub mod Emitting
 pub mod Sent
 pub mod Alone
-pub mod Counting

@@ -1,104 +1,97 @@
--- The views that were emitted, by the places that they name.
+-- The views that were emitted, by the records that they name.
 use Rattle.std.proofs.Common.{◌≡◌, ℕ, ◌+◌, ◌-◌, ◌^◌, ◌<◌, ◌≤◌, min, nat_lt, Bool, true, false, cond, List, [], ◌∷◌, ◌++◌, length, take, Option, Some, None, IfSome, refl, sym, ap, ◌∙◌, arith, length-append, append_assoc}
 use Rattle.std.proofs.lemmas.List.{append-nil, take-append-le, take_all, length-take-le}
 use Rattle.std.specs.Option.{option_to_list}
 use Rattle.poison_mem.specs.declared.event.RecordView.{RecordView}
 use Rattle.reri_bank.specs.Views.{IsOf}
-use Rattle.reri_bank.specs.Place.{Place, Demand, Scrub, FirstLevel, SecondLevel, Consumption, bank_of, record_of, is_place}
+use Rattle.reri_bank.specs.StateAt.{is_record}
 use Rattle.ras_firmware.specs.KeptState.{KeptState}
 use Rattle.ras_firmware.specs.Kept.{with_view, with_all}
 use Rattle.ras_firmware.specs.Whole.{those_of, first_views}
+use Rattle.poison_mem.specs.RecordId.{bank_number, record_number, all_records}
+use Rattle.poison_mem.specs.declared.record_id.RecordId.{RecordId}
+use Rattle.poison_mem.specs.declared.record_id.RecordId.TheVariants.{Read, Scrub, L1, L2, Hart}
+use Rattle.std.specs.List.{AllByRecursion}
+use Rattle.std.proofs.lemmas.List.Elements.{filter-append}
+use Rattle.ras_firmware.specs.declared.records.TheConstants.{MOST_RECORDS}
+use Rattle.ras_firmware.proofs.Views.{all-append}
+use Rattle.std.specs.Prelude.{sum_by}
 
--- what is shown of the record at a place names it
-abbrev pub Named : Place → Option RecordView → Type 0
-Named q o = IfSome o (λ v. IsOf (bank_of q) (record_of q) v.kept)
+-- what is shown of a record names it
+abbrev pub Named : RecordId → Option RecordView → Type 0
+Named q o = IfSome o (λ v. IsOf (bank_number q) (record_number q) v.kept)
 
--- each view names a place
-abbrev pub AllPlaced : List RecordView → Type 0
-AllPlaced [] = Unit {0}
-AllPlaced (v ∷ vs) = ((q : Place) × IsOf (bank_of q) (record_of q) v.kept) × AllPlaced vs
+-- it names a record
+abbrev pub NamesOne : RecordView → Type 0
+NamesOne v = (q : RecordId) × IsOf (bank_number q) (record_number q) v.kept
 
-pub placed-append : (xs ys : List RecordView) → AllPlaced xs → AllPlaced ys → AllPlaced (xs ++ ys)
-placed-append [] ys h k = k
-placed-append (x ∷ xs) ys h k = (h.0, placed-append xs ys h.1 k)
+pub those_of-append : (p : RecordId) (xs ys : List RecordView) → those_of p (xs ++ ys) ≡ those_of p xs ++ those_of p ys
+those_of-append p xs ys = filter-append (λ (v : RecordView). is_record v.kept.bank v.kept.rec p) xs ys
 
-pub those_of-append : (p : Place) (xs ys : List RecordView) → those_of p (xs ++ ys) ≡ those_of p xs ++ those_of p ys
-those_of-append p [] ys = refl
-those_of-append p (x ∷ xs) ys = by_name (is_place x.kept.bank x.kept.rec p) (those_of-append p xs ys)
-  where
-    by_name : (b : Bool) → those_of p (xs ++ ys) ≡ those_of p xs ++ those_of p ys → cond b (x ∷ those_of p (xs ++ ys)) (those_of p (xs ++ ys)) ≡ cond b (x ∷ those_of p xs) (those_of p xs) ++ those_of p ys
-    by_name true rest = ap (λ l. x ∷ l) rest
-    by_name false rest = rest
-
-both_parts : (p : Place) (xs ys xs' ys' : List RecordView) → those_of p xs ≡ xs' → those_of p ys ≡ ys' → those_of p (xs ++ ys) ≡ xs' ++ ys'
+both_parts : (p : RecordId) (xs ys xs' ys' : List RecordView) → those_of p xs ≡ xs' → those_of p ys ≡ ys' → those_of p (xs ++ ys) ≡ xs' ++ ys'
 both_parts p xs ys xs' ys' h k = those_of-append p xs ys ∙ ap (λ l. l ++ those_of p ys) h ∙ ap (λ l. xs' ++ l) k
 
--- one view of each place, in the order of banks and records
-abbrev pub five : (Place → Option RecordView) → List RecordView
+-- one view of each record, in the order of banks and records
+abbrev pub five : (RecordId → Option RecordView) → List RecordView
 five f =
-    option_to_list (f Demand) ++ option_to_list (f Scrub) ++ option_to_list (f FirstLevel) ++ option_to_list (f SecondLevel)
-    ++ option_to_list (f Consumption)
+    option_to_list (f Read) ++ option_to_list (f Scrub) ++ option_to_list (f L1) ++ option_to_list (f L2)
+    ++ option_to_list (f Hart)
 
-one_at : (p q : Place) (o : Option RecordView) → Named q o → those_of p (option_to_list o) ≡ cond (is_place (bank_of q) (record_of q) p) (option_to_list o) []
-one_at p q None h = by_name (is_place (bank_of q) (record_of q) p)
+one_at : (p q : RecordId) (o : Option RecordView) → Named q o → those_of p (option_to_list o) ≡ cond (is_record (bank_number q) (record_number q) p) (option_to_list o) []
+one_at p q None h = by_name (is_record (bank_number q) (record_number q) p)
   where
     by_name : (b : Bool) → (let none : List RecordView = [] in none) ≡ cond b [] []
     by_name true = refl
     by_name false = refl
 one_at p q (Some v) h = rw (h.bank_is, h.rec_is) refl
 
-pub five_at : (f : Place → Option RecordView) → ((q : Place) → Named q (f q)) → (p : Place) → those_of p (five f) ≡ option_to_list (f p)
+pub five_at : (f : RecordId → Option RecordView) → ((q : RecordId) → Named q (f q)) → (p : RecordId) → those_of p (five f) ≡ option_to_list (f p)
 five_at f named p = parted ∙ only p
   where
-    part : Place → List RecordView
-    part q = cond (is_place (bank_of q) (record_of q) p) (option_to_list (f q)) []
+    part : RecordId → List RecordView
+    part q = cond (is_record (bank_number q) (record_number q) p) (option_to_list (f q)) []
 
-    parted : those_of p (five f) ≡ part Demand ++ part Scrub ++ part FirstLevel ++ part SecondLevel ++ part Consumption
+    parted : those_of p (five f) ≡ part Read ++ part Scrub ++ part L1 ++ part L2 ++ part Hart
     parted =
-        both_parts p _ _ _ _ (both_parts p _ _ _ _ (both_parts p _ _ _ _ (both_parts p _ _ _ _ (one_at p Demand (f Demand) (named Demand)) (one_at p Scrub (f Scrub) (named Scrub)))
-        (one_at p FirstLevel (f FirstLevel) (named FirstLevel))) (one_at p SecondLevel (f SecondLevel) (named SecondLevel))) (one_at p Consumption (f Consumption) (named Consumption))
+        both_parts p _ _ _ _ (both_parts p _ _ _ _ (both_parts p _ _ _ _ (both_parts p _ _ _ _ (one_at p Read (f Read) (named Read)) (one_at p Scrub (f Scrub) (named Scrub)))
+        (one_at p L1 (f L1) (named L1))) (one_at p L2 (f L2) (named L2))) (one_at p Hart (f Hart) (named Hart))
 
-    only : (r : Place) → (let at = λ (q : Place). cond (is_place (bank_of q) (record_of q) r) (option_to_list (f q)) [] in at Demand ++ at Scrub ++ at FirstLevel ++ at SecondLevel ++ at Consumption) ≡ option_to_list (f r)
-    only Demand = simp append-nil refl
+    only : (r : RecordId) → (let at = λ (q : RecordId). cond (is_record (bank_number q) (record_number q) r) (option_to_list (f q)) [] in at Read ++ at Scrub ++ at L1 ++ at L2 ++ at Hart) ≡ option_to_list (f r)
+    only Read = simp append-nil refl
     only Scrub = simp append-nil refl
-    only FirstLevel = simp append-nil refl
-    only SecondLevel = simp append-nil refl
-    only Consumption = refl
+    only L1 = simp append-nil refl
+    only L2 = simp append-nil refl
+    only Hart = refl
 
-one_placed : (q : Place) (o : Option RecordView) → Named q o → AllPlaced (option_to_list o)
+one_placed : (q : RecordId) (o : Option RecordView) → Named q o → AllByRecursion NamesOne (option_to_list o)
 one_placed q None h = tt
 one_placed q (Some v) h = ((q, h), tt)
 
-pub five_placed : (f : Place → Option RecordView) → ((q : Place) → Named q (f q)) → AllPlaced (five f)
+pub five_placed : (f : RecordId → Option RecordView) → ((q : RecordId) → Named q (f q)) → AllByRecursion NamesOne (five f)
 five_placed f named =
-    placed-append _ _ (placed-append _ _ (placed-append _ _ (placed-append _ _ (one_placed Demand (f Demand) (named Demand)) (one_placed Scrub (f Scrub) (named Scrub)))
-    (one_placed FirstLevel (f FirstLevel) (named FirstLevel))) (one_placed SecondLevel (f SecondLevel) (named SecondLevel))) (one_placed Consumption (f Consumption) (named Consumption))
+    all-append NamesOne _ _ (all-append NamesOne _ _ (all-append NamesOne _ _ (all-append NamesOne _ _ (one_placed Read (f Read) (named Read)) (one_placed Scrub (f Scrub) (named Scrub)))
+    (one_placed L1 (f L1) (named L1))) (one_placed L2 (f L2) (named L2))) (one_placed Hart (f Hart) (named Hart))
 
-abbrev pub by_place : List RecordView → ℕ
-by_place vs = length (those_of Demand vs) + length (those_of Scrub vs) + length (those_of FirstLevel vs) + length (those_of SecondLevel vs) + length (those_of Consumption vs)
-
-more_at : (p : Place) (v : RecordView) (vs : List RecordView) → length (those_of p (v ∷ vs)) ≡ length (those_of p vs) + cond (is_place v.kept.bank v.kept.rec p) 1 0
-more_at p v vs = by_name (is_place v.kept.bank v.kept.rec p)
+more_at : (p : RecordId) (v : RecordView) (vs : List RecordView) → length (those_of p (v ∷ vs)) ≡ length (those_of p vs) + cond (is_record v.kept.bank v.kept.rec p) 1 0
+more_at p v vs = by_name (is_record v.kept.bank v.kept.rec p)
   where
     by_name : (b : Bool) → length (cond b (v ∷ those_of p vs) (those_of p vs)) ≡ length (those_of p vs) + cond b 1 0
     by_name true = omega arith
     by_name false = omega arith
 
-one_place : (q : Place) (v : RecordView) → IsOf (bank_of q) (record_of q) v.kept
-    → cond (is_place v.kept.bank v.kept.rec Demand) 1 0 + cond (is_place v.kept.bank v.kept.rec Scrub) 1 0 + cond (is_place v.kept.bank v.kept.rec FirstLevel) 1 0
-    + cond (is_place v.kept.bank v.kept.rec SecondLevel) 1 0 + cond (is_place v.kept.bank v.kept.rec Consumption) 1 0 ≡ 1
-one_place Demand v h = rw (h.bank_is, h.rec_is) refl
-one_place Scrub v h = rw (h.bank_is, h.rec_is) refl
-one_place FirstLevel v h = rw (h.bank_is, h.rec_is) refl
-one_place SecondLevel v h = rw (h.bank_is, h.rec_is) refl
-one_place Consumption v h = rw (h.bank_is, h.rec_is) refl
+one_record : (q : RecordId) (v : RecordView) → IsOf (bank_number q) (record_number q) v.kept → sum_by (λ id. cond (is_record v.kept.bank v.kept.rec id) 1 0) all_records ≡ 1
+one_record Read v h = rw (h.bank_is, h.rec_is) refl
+one_record Scrub v h = rw (h.bank_is, h.rec_is) refl
+one_record L1 v h = rw (h.bank_is, h.rec_is) refl
+one_record L2 v h = rw (h.bank_is, h.rec_is) refl
+one_record Hart v h = rw (h.bank_is, h.rec_is) refl
 
-pub count_by_place : (vs : List RecordView) → AllPlaced vs → length vs ≡ by_place vs
-count_by_place [] h = omega arith
-count_by_place (v ∷ vs) h =
-    let rest = count_by_place vs h.1 in
-    let one = one_place h.0.0 v h.0.1 in
-    omega (arith, rest, one, more_at Demand v vs, more_at Scrub v vs, more_at FirstLevel v vs, more_at SecondLevel v vs, more_at Consumption v vs)
+pub count_by_record : (vs : List RecordView) → AllByRecursion NamesOne vs → length vs ≡ sum_by (λ id. length (those_of id vs)) all_records
+count_by_record [] h = omega arith
+count_by_record (v ∷ vs) h =
+    let rest = count_by_record vs h.1 in
+    let one = one_record h.0.0 v h.0.1 in
+    omega (arith, rest, one, more_at Read v vs, more_at Scrub v vs, more_at L1 v vs, more_at L2 v vs, more_at Hart v vs)
 
 -- the first views of as many, and one view more
 abbrev first_in : ℕ → ℕ → List RecordView → KeptState
@@ -139,7 +132,7 @@ one_more_in room most vs v = by_room (nat_lt (length vs) room) refl
         ∙ same_kept _ _ _ _ (sym first) (omega (arith, longer, above))
 
 one_more : (vs : List RecordView) (v : RecordView) → with_view (first_views vs) v ≡ first_views (vs ++ v ∷ [])
-one_more vs v = one_more_in 4096 (2 ^ 64 - 1) vs v
+one_more vs v = one_more_in MOST_RECORDS (2 ^ 64 - 1) vs v
 
 pub with_first : (more vs : List RecordView) → with_all (first_views vs) more ≡ first_views (vs ++ more)
 with_first [] vs = ap first_views (sym (append-nil vs))

@@ -9,11 +9,11 @@ use Rattle.ras_firmware.specs.Drain.{note_of, marked, emission, cleared}
 -- the notes of a mark
 abbrev pub notes_of : BanksState → Notes
 notes_of b = record {
-  demand = note_of b.memory.first;
+  read = note_of b.memory.first;
   scrub = note_of b.memory.second;
-  first_level = note_of b.caches.first;
-  second_level = note_of b.caches.second;
-  consumption = note_of b.hart.first;
+  l1 = note_of b.caches.first;
+  l2 = note_of b.caches.second;
+  hart = note_of b.hart.first;
 }
 
 -- the banks after a mark
@@ -28,18 +28,18 @@ marked_banks b = record {
 -- the banks after a clear under these notes
 abbrev pub cleared_banks : Notes → BanksState → BanksState
 cleared_banks n b = record {
-  memory = record { kind = b.memory.kind; first = cleared n.demand b.memory.first; second = cleared n.scrub b.memory.second };
-  caches = record { kind = b.caches.kind; first = cleared n.first_level b.caches.first; second = cleared n.second_level b.caches.second };
-  hart = record { kind = b.hart.kind; first = cleared n.consumption b.hart.first; second = b.hart.second };
+  memory = record { kind = b.memory.kind; first = cleared n.read b.memory.first; second = cleared n.scrub b.memory.second };
+  caches = record { kind = b.caches.kind; first = cleared n.l1 b.caches.first; second = cleared n.l2 b.caches.second };
+  hart = record { kind = b.hart.kind; first = cleared n.hart b.hart.first; second = b.hart.second };
   step = b.step;
 }
 
 -- what a clear emits, in the order of banks and records
 abbrev pub emissions : Notes → BanksState → List RecordView
 emissions n b =
-    option_to_list (emission n.demand b.memory.first) ++ option_to_list (emission n.scrub b.memory.second)
-    ++ option_to_list (emission n.first_level b.caches.first) ++ option_to_list (emission n.second_level b.caches.second)
-    ++ option_to_list (emission n.consumption b.hart.first)
+    option_to_list (emission n.read b.memory.first) ++ option_to_list (emission n.scrub b.memory.second)
+    ++ option_to_list (emission n.l1 b.caches.first) ++ option_to_list (emission n.l2 b.caches.second)
+    ++ option_to_list (emission n.hart b.hart.first)
 
 -- what every valid record shows, in the order of banks and records
 abbrev pub all_kept : BanksState → List RecordView

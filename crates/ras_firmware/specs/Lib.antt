@@ -5,4 +5,3 @@ pub mod Drain
 pub mod Drains
 pub mod Pieces
 pub mod Whole
-pub mod Counts

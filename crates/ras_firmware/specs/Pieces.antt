@@ -4,17 +4,18 @@ use Rattle.poison_mem.specs.declared.event.Event.{Event}
 use Rattle.poison_mem.specs.declared.event.RecordView.{RecordView}
 use Rattle.reri_bank.specs.declared.layout.Control.{Control}
 use Rattle.reri_bank.specs.declared.state.Staged.{Staged}
-use Rattle.reri_bank.specs.Record.{severity, rec_of}
+use Rattle.reri_bank.specs.Record.{rank, rec_of}
 use Rattle.ras_firmware.specs.Drain.{is_signalled}
+use Rattle.std.specs.List.{flat_map, fold}
 
 -- what happens to a record: an event is logged, its control is written, an injection is staged or taken away, and the two
 -- steps of the drain
-pub data Action : Type 0 where
-  Log : Event → Action
-  Write : Control → Action
-  Stage : Option Staged → Action
-  Mark : Action
-  Clear : Action
+pub data RecordAction : Type 0 where
+  Log : Event → RecordAction
+  Write : Control → RecordAction
+  Stage : Option Staged → RecordAction
+  Mark : RecordAction
+  Clear : RecordAction
 
 -- the pieces that were cleared, the events since, the number of events that was noted, and the control
 pub record Pieces : Type 0 where
@@ -34,7 +35,7 @@ is_unchanged (Some n) events = n == length events
 
 -- logging adds an event where it is enabled; a mark notes the number of events of a signalled record, and forgets an older
 -- note; a clear ends a piece where that number is unchanged
-abbrev pub pieces_after : Pieces → Action → Pieces
+abbrev pub pieces_after : Pieces → RecordAction → Pieces
 pieces_after p (Log e) = record { pieces = p.pieces; events = if p.control.logging then p.events ++ e ∷ [] else p.events; noted = p.noted; control = p.control }
 pieces_after p (Write control) = record { pieces = p.pieces; events = p.events; noted = p.noted; control = control }
 pieces_after p (Stage staged) = p
@@ -47,9 +48,8 @@ pieces_after p Clear = record {
 }
 
 -- the pieces after all that happens to a record
-abbrev pub pieces_run : Pieces → List Action → Pieces
-pieces_run p [] = p
-pieces_run p (a ∷ actions) = pieces_run (pieces_after p a) actions
+abbrev pub pieces_run : Pieces → List RecordAction → Pieces
+pieces_run p actions = fold pieces_after p actions
 
 -- at the stop the events since the last clear are a piece, where there are any
 abbrev pub rest : List Event → List (List Event)
@@ -61,22 +61,16 @@ abbrev pub all_pieces : Pieces → List (List Event)
 all_pieces p = p.pieces ++ rest p.events
 
 -- the pieces joined in order
-abbrev pub joined : List (List Event) → List Event
-joined [] = []
-joined (es ∷ pieces) = es ++ joined pieces
+abbrev pub joined_pieces : List (List Event) → List Event
+joined_pieces pieces = flat_map (λ (es : List Event). es) pieces
 
 -- there is an event
 abbrev pub IsNonempty : List Event → Type 0
 IsNonempty [] = ⊥
 IsNonempty (e ∷ es) = Unit {0}
 
--- each piece has an event
-abbrev pub AllNonempty : List (List Event) → Type 0
-AllNonempty [] = Unit {0}
-AllNonempty (es ∷ pieces) = IsNonempty es × AllNonempty pieces
-
 -- the events that were logged while logging was enabled
-abbrev pub let_in : Control → List Action → List Event
+abbrev pub let_in : Control → List RecordAction → List Event
 let_in control [] = []
 let_in control (Log e ∷ actions) = if control.logging then e ∷ let_in control actions else let_in control actions
 let_in control (Write c ∷ actions) = let_in c actions
@@ -84,7 +78,7 @@ let_in control (Stage staged ∷ actions) = let_in control actions
 let_in control (Mark ∷ actions) = let_in control actions
 let_in control (Clear ∷ actions) = let_in control actions
 
--- the place of the kept class, 0 of an empty record
+-- the rank of the kept class, 0 of an empty record
 abbrev pub kept_class : Option RecordView → ℕ
 kept_class None = 0
-kept_class (Some v) = severity v.kept.class
+kept_class (Some v) = rank v.kept.class

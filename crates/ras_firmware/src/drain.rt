@@ -1,37 +1,30 @@
 //! The drain: valid signalled records are noted, and later emptied where no event came between.
 
 ghost use Rattle.std.specs.Prelude.{◌≡◌, ◌<◌, ◌+◌, ◌*◌, IfSome};
+ghost use Rattle.poison_mem.specs.RecordId.{record_id};
 ghost use Rattle.reri_bank.specs.Layout.{control_word};
 ghost use Rattle.reri_bank.specs.State.{state_marked, state_emptied};
 ghost use Rattle.reri_bank.specs.BankState.{AreHeld, kind_number};
 ghost use Rattle.reri_bank.specs.Bank.{record_at, with_record, record_count, eid_of};
 ghost use Rattle.reri_bank.specs.Banks.{bank_at, with_bank, records_of};
-ghost use Rattle.ras_firmware.specs.Kept.{IsListed, with_all};
-ghost use Rattle.ras_firmware.specs.Notes.{Notes, no_notes, note_at, with_note, place_of, IsNote};
+ghost use Rattle.ras_firmware.specs.Kept.{with_all};
+ghost use Rattle.ras_firmware.specs.Notes.{Notes, no_notes, named_note, with_named_note, IsNote};
 ghost use Rattle.ras_firmware.specs.Drain.{signals, is_signalled, note_of, marked, emission, cleared};
 ghost use Rattle.ras_firmware.specs.Drains.{notes_of, marked_banks, cleared_banks, emissions, all_kept};
+ghost use Rattle.poison_mem.specs.RecordView.{IsListedView};
 
 use crate::records::Records;
-use poison_mem::{Class, RecordView};
-use ras_bits::{get_field, put_field};
-use reri_bank::{Bank, Banks, Control, control_of};
+use poison_mem::{Class, RecordId, RecordView};
+use ras_bits::{has_bit, put_field};
+use reri_bank::{Bank, Banks, CONTROL, Control, RDIP, SINV, SRDP, STATUS, STRIDE, control_of};
 use std::marker::Model;
 
-/// The place of `sinv` in a control register.
-const SINV: u32 = 32;
-
-/// The place of `srdp` in a control register.
-const SRDP: u32 = 33;
-
-/// The place of `rdip` in a status register.
-const RDIP: u32 = 8;
-
-/// The offset of the control register of a record; its status register comes next.
+/// The offset of the control register of a record.
 fn control_offset(rec: u8) -> u16
     requires { rec < 2 }
-    ensures { result ≡ 64 + 64 * rec }
+    ensures { result ≡ CONTROL + STRIDE * rec }
 {
-    64 + 64 * u16::from(rec)
+    CONTROL + STRIDE * u16::from(rec)
 }
 
 /// Whether a class is signalled to the firmware.
@@ -72,8 +65,8 @@ fn reads_rdip(bank: &Bank, rec: u8) -> bool
     requires held { AreHeld bank.now }
     ensures { result ≡ (record_at bank.now rec).rdip }
 {
-    match bank.read_reg(control_offset(rec) + 8) {
-        Some(value) => get_field(value, RDIP, 1) == 1,
+    match bank.read_reg(control_offset(rec) + STATUS) {
+        Some(value) => has_bit(value, RDIP),
         None => false,
     }
 }
@@ -148,7 +141,7 @@ fn clear_record(
     requires rec { rec < records_of bank }
     requires note { IfSome note (IsNote bank rec) }
     ensures emitted { result ≡ emission note (record_at (bank_at banks.old bank) rec) }
-    ensures listed { IfSome result IsListed }
+    ensures listed { IfSome result IsListedView }
     ensures banks { banks.new ≡ with_bank banks.old bank (λ k. with_record k rec (cleared note)) }
 {
     match note {
@@ -164,11 +157,11 @@ fn clear_record(
 /// What firmware has noted of each record in the first step of the drain.
 #[derive(Drop)]
 pub struct Drain {
-    demand: Option<RecordView>,
+    read: Option<RecordView>,
     scrub: Option<RecordView>,
-    first_level: Option<RecordView>,
-    second_level: Option<RecordView>,
-    consumption: Option<RecordView>,
+    l1: Option<RecordView>,
+    l2: Option<RecordView>,
+    hart: Option<RecordView>,
 }
 
 impl Model for Drain {
@@ -177,9 +170,9 @@ impl Model for Drain {
 
     ghost Value = { Notes };
 
-    ghost view = { λ d. record { demand = d.demand; scrub = d.scrub; first_level = d.first_level; second_level = d.second_level; consumption = d.consumption } };
+    ghost view = { λ d. record { read = d.read; scrub = d.scrub; l1 = d.l1; l2 = d.l2; hart = d.hart } };
 
-    ghost invariant = { λ d. IfSome d.demand (IsNote 0 0) × (IfSome d.scrub (IsNote 0 1) × (IfSome d.first_level (IsNote 1 0) × (IfSome d.second_level (IsNote 1 1) × IfSome d.consumption (IsNote 2 0)))) };
+    ghost invariant = { λ d. IfSome d.read (IsNote 0 0) × (IfSome d.scrub (IsNote 0 1) × (IfSome d.l1 (IsNote 1 0) × (IfSome d.l2 (IsNote 1 1) × IfSome d.hart (IsNote 2 0)))) };
 }
 
 impl Drain {
@@ -188,11 +181,11 @@ impl Drain {
         ensures { result ≡ no_notes }
     {
         Drain {
-            demand: None,
+            read: None,
             scrub: None,
-            first_level: None,
-            second_level: None,
-            consumption: None,
+            l1: None,
+            l2: None,
+            hart: None,
         }
     }
 
@@ -201,11 +194,11 @@ impl Drain {
         ensures notes { self.new ≡ notes_of banks.old }
         ensures banks { banks.new ≡ marked_banks banks.old }
     {
-        self.demand = mark_record(banks, 0, 0);
+        self.read = mark_record(banks, 0, 0);
         self.scrub = mark_record(banks, 0, 1);
-        self.first_level = mark_record(banks, 1, 0);
-        self.second_level = mark_record(banks, 1, 1);
-        self.consumption = mark_record(banks, 2, 0);
+        self.l1 = mark_record(banks, 1, 0);
+        self.l2 = mark_record(banks, 1, 1);
+        self.hart = mark_record(banks, 2, 0);
     }
 
     /// Writes `sinv` to each noted record. Where its `rdip` was still set, no event came since, the record is empty then,
@@ -215,11 +208,11 @@ impl Drain {
         ensures banks { banks.new ≡ cleared_banks self.old banks.old }
         ensures emitted { out.new ≡ with_all out.old (emissions self.old banks.old) }
     {
-        out.emit_some(clear_record(banks, 0, 0, self.demand));
+        out.emit_some(clear_record(banks, 0, 0, self.read));
         out.emit_some(clear_record(banks, 0, 1, self.scrub));
-        out.emit_some(clear_record(banks, 1, 0, self.first_level));
-        out.emit_some(clear_record(banks, 1, 1, self.second_level));
-        out.emit_some(clear_record(banks, 2, 0, self.consumption));
+        out.emit_some(clear_record(banks, 1, 0, self.l1));
+        out.emit_some(clear_record(banks, 1, 1, self.l2));
+        out.emit_some(clear_record(banks, 2, 0, self.hart));
         *self = Drain::new();
     }
 
@@ -227,19 +220,16 @@ impl Drain {
     pub fn note(&self, bank: u8, rec: u8) -> Option<RecordView>
         requires bank { bank < 3 }
         requires rec { rec < records_of bank }
-        ensures note { result ≡ note_at self.now (place_of bank rec) }
+        ensures note { result ≡ named_note self.now (record_id bank rec) }
         ensures listed { IfSome result (IsNote bank rec) }
     {
-        if bank == 0 {
-            if rec == 0 { self.demand } else { self.scrub }
-        } else if bank == 1 {
-            if rec == 0 {
-                self.first_level
-            } else {
-                self.second_level
-            }
-        } else {
-            self.consumption
+        match RecordId::named(bank, rec) {
+            None => None,
+            Some(RecordId::Read) => self.read,
+            Some(RecordId::Scrub) => self.scrub,
+            Some(RecordId::L1) => self.l1,
+            Some(RecordId::L2) => self.l2,
+            Some(RecordId::Hart) => self.hart,
         }
     }
 
@@ -248,22 +238,15 @@ impl Drain {
         requires bank { bank < 3 }
         requires rec { rec < records_of bank }
         requires note { IfSome v (IsNote bank rec) }
-        ensures { self.new ≡ with_note self.old (place_of bank rec) v }
+        ensures { self.new ≡ with_named_note self.old (record_id bank rec) v }
     {
-        if bank == 0 {
-            if rec == 0 {
-                self.demand = v;
-            } else {
-                self.scrub = v;
-            }
-        } else if bank == 1 {
-            if rec == 0 {
-                self.first_level = v;
-            } else {
-                self.second_level = v;
-            }
-        } else {
-            self.consumption = v;
+        match RecordId::named(bank, rec) {
+            None => {}
+            Some(RecordId::Read) => self.read = v,
+            Some(RecordId::Scrub) => self.scrub = v,
+            Some(RecordId::L1) => self.l1 = v,
+            Some(RecordId::L2) => self.l2 = v,
+            Some(RecordId::Hart) => self.hart = v,
         }
     }
 }
@@ -284,7 +267,7 @@ fn kept_listed(banks: &Banks, bank: u8, rec: u8) -> Option<RecordView>
     requires bank { bank < 3 }
     requires rec { rec < records_of bank }
     ensures kept { result ≡ (record_at (bank_at banks.now bank) rec).kept }
-    ensures listed { IfSome result IsListed }
+    ensures listed { IfSome result IsListedView }
 {
     banks.bank(bank).kept(rec)
 }

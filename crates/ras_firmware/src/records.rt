@@ -2,15 +2,16 @@
 
 ghost use Rattle.std.specs.Prelude.{◌≡◌, ◌≤◌, ◌<◌, ℕ, length, IfOk, IfSome};
 ghost use Rattle.ras_firmware.specs.KeptState.{KeptState};
-ghost use Rattle.ras_firmware.specs.Kept.{IsListed, AllListed, IsKept, with_view, with_option, no_records};
+ghost use Rattle.ras_firmware.specs.Kept.{IsKept, with_view, with_option, no_records};
+ghost use Rattle.poison_mem.specs.RecordView.{IsListedView};
 
 use poison_mem::RecordView;
 use ras_bits::NoMemory;
 use std::alloc::Global;
 use std::marker::Model;
 
-/// How many records are kept.
-const ROOM: usize = 4096;
+/// How many records are kept at most.
+pub(crate) const MOST_RECORDS: usize = 4096;
 
 /// The first 4,096 views that were emitted, and the number of the others, which stays at 2^64 - 1.
 #[derive(Drop)]
@@ -22,13 +23,15 @@ pub struct Records {
 impl Model for Records {
     ghost use Rattle.std.specs.Prelude.{◌≡◌, ◌≤◌, ◌<◌, length, vec_capacity};
     ghost use Rattle.ras_firmware.specs.KeptState.{KeptState};
-    ghost use Rattle.ras_firmware.specs.Kept.{AllListed};
+    ghost use Rattle.std.specs.List.{AllByRecursion};
+    ghost use Rattle.poison_mem.specs.RecordView.{IsListedView};
+    ghost use Rattle.ras_firmware.specs.declared.records.TheConstants.{MOST_RECORDS};
 
     ghost Value = { KeptState };
 
     ghost view = { λ r. record { views = r.views.items; left_out = r.dropped } };
 
-    ghost invariant = { λ r. (4096 ≤ vec_capacity r.views) × ((length r.views.items ≤ 4096) × (AllListed r.views.items × (0 < r.dropped → length r.views.items ≡ 4096))) };
+    ghost invariant = { λ r. (MOST_RECORDS ≤ vec_capacity r.views) × ((length r.views.items ≤ MOST_RECORDS) × (AllByRecursion IsListedView r.views.items × (0 < r.dropped → length r.views.items ≡ MOST_RECORDS))) };
 }
 
 impl Records {
@@ -36,7 +39,7 @@ impl Records {
     pub fn make(alloc: Global) -> Result<Records, NoMemory>
         ensures { IfOk result (λ r. r ≡ no_records) }
     {
-        let views = Vec::with_capacity(alloc, ROOM)?;
+        let views = Vec::with_capacity(alloc, MOST_RECORDS)?;
         Ok(Records { views, dropped: 0 })
     }
 
@@ -73,10 +76,10 @@ impl Records {
 
     /// Emits a view: it is kept while there is room, and else counted.
     pub(crate) fn emit(&mut self, view: RecordView)
-        requires { IsListed view }
+        requires { IsListedView view }
         ensures { self.new ≡ with_view self.old view }
     {
-        if self.views.len() < ROOM {
+        if self.views.len() < MOST_RECORDS {
             self.views.push_reserved(view);
         } else {
             self.dropped = self.dropped.saturating_add(1);
@@ -85,7 +88,7 @@ impl Records {
 
     /// Emits a view, where there is one.
     pub(crate) fn emit_some(&mut self, view: Option<RecordView>)
-        requires { IfSome view IsListed }
+        requires { IfSome view IsListedView }
         ensures { self.new ≡ with_option self.old view }
     {
         match view {

@@ -7,8 +7,8 @@ use Rattle.ras_firmware.proofs.whole.no_event_is_lost_or_doubled.Goals as goal
 pub returns : goal.returns
 returns c = record {
   emitted = each_emitted;
-  joined = λ place calls. all_joined first_control (actions_of place 0 calls);
-  some = λ place calls. all_some first_control (actions_of place 0 calls);
+  joined = λ id calls. all_joined first_control (actions_of id 0 calls);
+  some = λ id calls. all_some first_control (actions_of id 0 calls);
   kept = all_kept_first;
   counted = all_counted;
   adds_up = all_add_up;

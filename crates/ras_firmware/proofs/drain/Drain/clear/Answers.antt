@@ -8,7 +8,7 @@ use Rattle.ras_firmware.proofs.drain.Drain.clear.Goals as goal
 pub returns-clause-emitted : goal.returns-clause-emitted
 returns-clause-emitted c =
     let d = c.self.inside in
-    let n : Notes = record { demand = d.demand; scrub = d.scrub; first_level = d.first_level; second_level = d.second_level; consumption = d.consumption } in
+    let n : Notes = record { read = d.read; scrub = d.scrub; l1 = d.l1; l2 = d.l2; hart = d.hart } in
     clears n c.args.banks.now c.clear_record.new.banks c.clear_record-2.new.banks c.clear_record-3.new.banks c.clear_record-4.new.banks
     c.clear_record.result c.clear_record-2.result c.clear_record-3.result c.clear_record-4.result c.clear_record-5.result
     c.args.out.now c.emit_some.new.self c.emit_some-2.new.self c.emit_some-3.new.self c.emit_some-4.new.self c.emit_some-5.new.self
