@@ -1,11 +1,11 @@
--- Headers that lie in the file, and the first that breaks a sought.
+-- Headers that lie in the file, and the first that is sought.
 use Rattle.std.proofs.Common.{◌≡◌, ℕ, suc, zero, ◌+◌, ◌-◌, ◌*◌, ◌<◌, ◌≤◌, Bool, true, false, cond, ◌==◌, ◌||◌, ◌&&◌, nat_le, List, length, Option, Some, None, Ok, ◌⊎◌, inl, inr, ◌≢◌, refl, ap, ◌∙◌, arith}
 use Rattle.std.proofs.lemmas.Grind.{common_steps}
 use Rattle.elf_load.specs.Headers.{e_phnum, e_phoff, e_phentsize, HasHeaders}
 use Rattle.elf_load.specs.Rules.{headers_fit, first_from, first_sought, is_sought, refusal_of, NoneFound}
 use Rattle.elf_load.specs.Memory.{SegmentsFit}
-use Rattle.elf_load.specs.declared.checks.Sought.{Sought}
-use Rattle.elf_load.specs.declared.checks.Sought.TheVariants as sought
+use Rattle.elf_load.specs.declared.rules.Sought.{Sought}
+use Rattle.elf_load.specs.declared.rules.Sought.TheVariants as sought
 use Rattle.elf_load.proofs.RamLemmas.{same_or_not}
 
 fit : (count len end start n : ℕ) → ((n == 0) || (count == 56 && nat_le end len)) ≡ true → end ≡ start + 56 * n → (k : ℕ) → k < n → start + 56 * k + 56 ≤ len
@@ -28,10 +28,10 @@ first_here test k (suc left) h e = rw e refl
 step_none : (test : ℕ → Bool) (k left j : ℕ) (t : Bool) → test k ≡ t → cond t (Some k) (first_from test (k + 1) left) ≡ None → k ≤ j
     → (first_from test (k + 1) left ≡ None → k + 1 ≤ j → test j ≡ false) → test j ≡ false
 step_none test k left j true e h low rest = absurd cc
-step_none test k left j false e h low rest = by_place (same_or_not j k) where
-  by_place : (((j == k) ≡ true) × (j ≡ k)) ⊎ (((j == k) ≡ false) × (j ≢ k)) → test j ≡ false
-  by_place (inl same) = ap test same.1 ∙ e
-  by_place (inr other) = rest h (omega (arith, other.1))
+step_none test k left j false e h low rest = by_equality (same_or_not j k) where
+  by_equality : (((j == k) ≡ true) × (j ≡ k)) ⊎ (((j == k) ≡ false) × (j ≢ k)) → test j ≡ false
+  by_equality (inl same) = ap test same.1 ∙ e
+  by_equality (inr other) = rest h (omega (arith, other.1))
 
 none_within : (test : ℕ → Bool) (k left : ℕ) → first_from test k left ≡ None → (j : ℕ) → k ≤ j → j < k + left → test j ≡ false
 none_within test k zero h j low high = absurd (omega arith)
@@ -59,4 +59,4 @@ none_found b ram_words sought.Outside h = none_from (is_sought b ram_words sough
 
 pub segments_fit : (b : List ℕ) (ram_words : ℕ) → NoneFound b ram_words sought.FilePart → NoneFound b ram_words sought.Outside → SegmentsFit b ram_words
 unfolding is_sought
-segments_fit b ram_words parts places = record { each = λ k small. record { part = parts k small; place = places k small } }
+segments_fit b ram_words parts outsides = record { each = λ k small. record { part = parts k small; inside = outsides k small } }

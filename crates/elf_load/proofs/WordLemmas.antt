@@ -5,11 +5,12 @@ use Rattle.std.specs.List.{range_with_len}
 use Rattle.std.proofs.lemmas.Nat.{from_le_bytes-to_le_bytes_8}
 use Rattle.std.proofs.lemmas.Grind.{same_number_lists}
 use Rattle.std.proofs.lemmas.List.FromFn.{length-map-range_with_len, get_or-map-range_with_len}
+use Rattle.ras_bits.specs.Map.{word_address}
 use Rattle.elf_load.specs.Memory.{HoldsBytes}
-use Rattle.elf_load.specs.Rules.{all_kept}
+use Rattle.elf_load.specs.Rules.{all_rules_kept}
 use Rattle.elf_load.specs.declared.refusals.ElfRefused.{ElfRefused}
 use Rattle.elf_load.specs.declared.refusals.ElfRefused.TheVariants as refused
-use Rattle.elf_load.specs.Program.{word_in, words_of, image_of, AnswersOrNoMemory}
+use Rattle.elf_load.specs.Program.{word_in, image_words, image_of, AnswersOrNoMemory}
 
 number_of : (b : List ℕ) (m0 m1 m2 m3 m4 m5 m6 m7 : ℕ) → get_or b 0 0 ≡ m0 → get_or b 1 0 ≡ m1 → get_or b 2 0 ≡ m2 → get_or b 3 0 ≡ m3
     → get_or b 4 0 ≡ m4 → get_or b 5 0 ≡ m5 → get_or b 6 0 ≡ m6 → get_or b 7 0 ≡ m7
@@ -17,7 +18,7 @@ number_of : (b : List ℕ) (m0 m1 m2 m3 m4 m5 m6 m7 : ℕ) → get_or b 0 0 ≡ 
 number_of b m0 m1 m2 m3 m4 m5 m6 m7 h0 h1 h2 h3 h4 h5 h6 h7 = omega arith
 
 -- byte j of a word, at its address
-byte_at : (words : List ℕ) (memory : ℕ → ℕ) (w j address : ℕ) → w < length words → HoldsBytes words memory → j < 8 → 0x80000000 + (8 * w + j) ≡ address
+byte_at : (words : List ℕ) (memory : ℕ → ℕ) (w j address : ℕ) → w < length words → HoldsBytes words memory → j < 8 → word_address w + j ≡ address
     → get_or (to_le_bytes w64 (get_or words w 0)) j 0 ≡ memory address
 byte_at words memory w j address inside held small here = held.at w j inside small ∙ ap memory here
 
@@ -37,14 +38,14 @@ word_is words memory w inside fits held =
 
 -- words that hold the bytes of memory are its words
 pub words_are : (words : List ℕ) (memory : ℕ → ℕ) (n : ℕ) → length words ≡ n → ((k : ℕ) → get_or words k 0 < 2 ^ 64) → HoldsBytes words memory
-    → words ≡ words_of memory n
-unfolding words_of
+    → words ≡ image_words memory n
+unfolding image_words
 words_are words memory n count fits held =
     same_number_lists words (map (word_in memory) (range_with_len 0 n)) (count ∙ sym (length-map-range_with_len (word_in memory) 0 n))
     (λ k inside. word_is words memory k inside (fits k) held ∙ sym (get_or-map-range_with_len (word_in memory) 0 n k k 0 (omega arith) (omega arith)))
 
 -- the first rule that a file breaks is the answer
-pub file_refused : (b : List ℕ) (ram_words : ℕ) (refusal : ElfRefused) → all_kept b ram_words ≡ Err refusal → AnswersOrNoMemory (image_of false b ram_words) (Err refusal)
+pub file_refused : (b : List ℕ) (ram_words : ℕ) (refusal : ElfRefused) → all_rules_kept b ram_words ≡ Err refusal → AnswersOrNoMemory (image_of false b ram_words) (Err refusal)
 unfolding image_of
 file_refused b ram_words refusal h = by_case refusal (rw h refl) where
   by_case : (refusal : ElfRefused) → image_of false b ram_words ≡ Err refusal → AnswersOrNoMemory (image_of false b ram_words) (Err refusal)

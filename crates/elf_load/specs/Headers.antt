@@ -1,4 +1,5 @@
--- The file header and the program headers of an ELF-64 file, by the names of the specification.
+-- The file header and the program headers of an ELF-64 file, by the names of the specification (ELF-64, "File Header" and
+-- "Program Header Table").
 use Rattle.std.specs.Prelude.{ℕ, ◌+◌, ◌*◌, ◌<◌, ◌≤◌, Bool, ◌==◌, List, length, get_or}
 use Rattle.ras_bits.specs.Fields.{number_at}
 use Rattle.elf_load.specs.declared.headers.ProgramHeader.{ProgramHeader}
@@ -23,7 +24,7 @@ e_machine b = number_at 2 18 b
 abbrev pub e_entry : List ℕ → ℕ
 e_entry b = number_at 8 24 b
 
--- the place of the first program header in the file
+-- the offset of the first program header in the file
 abbrev pub e_phoff : List ℕ → ℕ
 e_phoff b = number_at 8 32 b
 
@@ -39,7 +40,7 @@ e_phentsize b = number_at 2 54 b
 abbrev pub e_phnum : List ℕ → ℕ
 e_phnum b = number_at 2 56 b
 
--- the program header at a place of the file
+-- the program header at an offset of the file
 abbrev pub header_at : List ℕ → ℕ → ProgramHeader
 header_at b at = record {
   p_type = number_at 4 at b;

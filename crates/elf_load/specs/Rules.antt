@@ -1,18 +1,15 @@
--- Which rule an image breaks first.
+-- Which rule an image breaks first (ELF-64; e_flags: RISC-V psABI; the entry: unprivileged manual).
 use Rattle.std.specs.Prelude.{◌≡◌, ℕ, zero, suc, ◌+◌, ◌*◌, ◌%◌, ◌<◌, Bool, true, false, not, ◌&&◌, ◌||◌, ◌==◌, nat_le, nat_lt, if◌then◌else◌, List, length, Option, Some, None, Result, Ok, Err}
 use Rattle.ras_bits.specs.Fields.{field, number_at}
+use Rattle.ras_bits.specs.Map.{word_address, is_ram}
+use Rattle.ras_bits.specs.Results.{◌>>=◌}
+use Rattle.ras_bits.specs.declared.map.TheConstants.{RAM_START}
 use Rattle.elf_load.specs.Headers.{ei_class, ei_data, e_type, e_machine, e_entry, e_phoff, e_flags, e_phentsize, e_phnum, program_header, is_load}
 use Rattle.elf_load.specs.declared.headers.ProgramHeader.{ProgramHeader}
-use Rattle.elf_load.specs.declared.checks.Sought.{Sought}
-use Rattle.elf_load.specs.declared.checks.Sought.TheVariants as sought
+use Rattle.elf_load.specs.declared.rules.Sought.{Sought}
+use Rattle.elf_load.specs.declared.rules.Sought.TheVariants as sought
 use Rattle.elf_load.specs.declared.refusals.ElfRefused.{ElfRefused}
 use Rattle.elf_load.specs.declared.refusals.ElfRefused.TheVariants as refused
-
--- the first refusal stands: f goes on only where there is none
-infixl 10 ◌>>=◌
-abbrev pub ◌>>=◌ : {A B E : Type 0} → Result A E → (A → Result B E) → Result B E
-(Ok x) >>= f = f x
-(Err e) >>= f = Err e
 
 -- The file header
 
@@ -37,10 +34,6 @@ file_kept b =
 
 -- Load headers
 
--- the address behind the last byte of RAM
-abbrev pub ram_end : ℕ → ℕ
-ram_end ram_words = 0x80000000 + 8 * ram_words
-
 -- what a load header is looked for by: any; its file part passes the file; its file part is longer than
 -- its segment; its segment doesn't lie in RAM
 abbrev pub is_at_fault : List ℕ → ℕ → Sought → ProgramHeader → Bool
@@ -48,7 +41,7 @@ is_at_fault b ram_words sought.Load h = true
 is_at_fault b ram_words sought.FilePart h = not (h.p_filesz == 0) && nat_lt (length b) (h.p_offset + h.p_filesz)
 is_at_fault b ram_words sought.Sizes h = nat_lt h.p_memsz h.p_filesz
 is_at_fault b ram_words sought.Outside h =
-    not (h.p_memsz == 0) && not (nat_le 0x80000000 h.p_paddr && nat_le (h.p_paddr + h.p_memsz) (ram_end ram_words))
+    not (h.p_memsz == 0) && not (nat_le RAM_START h.p_paddr && nat_le (h.p_paddr + h.p_memsz) (word_address ram_words))
 
 -- program header k is a load header that is sought
 unfoldable pub is_sought : List ℕ → ℕ → Sought → ℕ → Bool
@@ -88,16 +81,16 @@ NoneFound b ram_words wanted = (k : ℕ) → k < e_phnum b → is_sought b ram_w
 -- an instruction of RAM is entered
 unfoldable pub entry_kept : List ℕ → ℕ → Result (Unit {0}) ElfRefused
 entry_kept b ram_words =
-    if e_entry b % 4 == 0 && (nat_le 0x80000000 (e_entry b) && nat_lt (e_entry b) (ram_end ram_words)) then Ok tt else Err refused.Entry
+    if e_entry b % 4 == 0 && is_ram ram_words (e_entry b) then Ok tt else Err refused.Entry
 
 -- the first rule that a file breaks, each tried on all headers before the next
-unfoldable pub all_kept : List ℕ → ℕ → Result (Unit {0}) ElfRefused
-all_kept b ram_words = do
+unfoldable pub all_rules_kept : List ℕ → ℕ → Result (Unit {0}) ElfRefused
+all_rules_kept b ram_words = do
   file ← file_kept b
   load ← rule_kept b ram_words sought.Load
   part ← rule_kept b ram_words sought.FilePart
   sizes ← rule_kept b ram_words sought.Sizes
-  place ← rule_kept b ram_words sought.Outside
+  inside ← rule_kept b ram_words sought.Outside
   entry_kept b ram_words
 
 -- raw bytes must fit RAM

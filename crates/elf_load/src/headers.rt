@@ -5,9 +5,6 @@ ghost use Rattle.elf_load.specs.Headers.{e_entry, e_phoff, e_phnum, program_head
 
 use ras_bits::{u16_at, u32_at, u64_at};
 
-/// The physical address of the first byte of RAM.
-pub const RAM_START: u64 = 0x8000_0000;
-
 /// The fields of a program header that an image rests on, named as in the ELF-64 specification.
 #[derive(Clone, Copy)]
 pub struct ProgramHeader {

@@ -3,10 +3,11 @@
 ghost use Rattle.std.specs.Prelude.{◌≡◌, ◌<◌, ◌%◌, ◌^◌, true, false, length, IfOk};
 ghost use Rattle.elf_load.specs.Program.{image_of, AnswersOrNoMemory};
 
-use crate::checks::keep_all;
-use crate::headers::{RAM_START, entry_address};
-use crate::ram::{write_raw, write_segments};
+use crate::headers::entry_address;
+use crate::memory::{write_raw, write_segments};
 use crate::refusals::ElfRefused;
+use crate::rules::keep_all;
+use ras_bits::RAM_START;
 use std::alloc::Global;
 use std::marker::Model;
 
@@ -29,8 +30,8 @@ impl Model for Image {
 }
 
 impl Image {
-    /// The image that an ELF-64 file is, for a RAM of `ram_words` words of 8 bytes from 0x80000000
-    /// on: RAM is zero, and then each load header in order writes its `p_filesz` bytes of the file and
+    /// The image that an ELF-64 file is, for a RAM of `ram_words` words of 8 bytes: RAM is
+    /// zero, and then each load header in order writes its `p_filesz` bytes of the file and
     /// zeros up to `p_memsz` from the physical address `p_paddr` on. It is entered at `e_entry`.
     ///
     /// A refusal is the first rule of `ElfRefused` that the file breaks; `NoMemory` is want of memory.
@@ -48,7 +49,7 @@ impl Image {
         })
     }
 
-    /// The image of raw bytes: they lie from 0x80000000 on, with zeros behind them, and are entered
+    /// The image of raw bytes: they lie from the start of RAM on, with zeros behind them, and are entered
     /// there.
     ///
     /// `Outside(0)` exactly where they are longer than a RAM of `ram_words` words of 8 bytes;

@@ -3,14 +3,11 @@
 //! An image is an ELF-64 executable for RISC-V, or raw bytes that are loaded where RAM starts.
 #![tactic(auto)]
 
-mod checks;
 mod headers;
 mod images;
-mod ram;
+mod memory;
 mod refusals;
+mod rules;
 
 pub use images::Image;
 pub use refusals::ElfRefused;
-
-#[cfg(test)]
-mod tests;

@@ -3,7 +3,12 @@ use Rattle.std.proofs.Common.{◌≡◌, ◌≢◌, ℕ, suc, zero, ◌-◌, ◌
 use Rattle.std.specs.List.{AllByRecursion, onto_first, filter, list_all}
 use Rattle.std.proofs.lemmas.Grind.{common_steps}
 use Rattle.fault_script.specs.Words.{parts, is_blank, is_line_feed, is_word, words_of, lines_of, without_return}
-use Rattle.fault_script.specs.Script.{is_readable}
+use Rattle.fault_script.specs.Script.{is_script_byte}
+
+-- what each element has, if it follows from what each has
+pub each_too : (P Q : ℕ → Type 0) → ((x : ℕ) → P x → Q x) → (xs : List ℕ) → AllByRecursion P xs → AllByRecursion Q xs
+each_too P Q f [] all = tt
+each_too P Q f (x ∷ xs) all = (f x all.0, each_too P Q f xs all.1)
 
 abbrev pub IsPlain : ℕ → Type 0
 IsPlain b = (33 ≤ b) × (b ≤ 126)
@@ -24,27 +29,26 @@ plain_blank : (b : ℕ) → IsPlain b → is_blank b ≡ false
 plain_blank b h = grind (arith, common_steps)
 
 no_blanks : (w : List ℕ) → AllByRecursion IsPlain w → AllByRecursion (λ b. is_blank b ≡ false) w
-no_blanks [] all = tt
-no_blanks (b ∷ w) all = (plain_blank b all.0, no_blanks w all.1)
+no_blanks w = each_too IsPlain (λ b. is_blank b ≡ false) plain_blank w
 
-abbrev pub joined : List (List ℕ) → List ℕ
-joined [] = []
-joined (w ∷ []) = w
-joined (w ∷ v ∷ ws) = w ++ 32 ∷ joined (v ∷ ws)
+abbrev pub joined_words : List (List ℕ) → List ℕ
+joined_words [] = []
+joined_words (w ∷ []) = w
+joined_words (w ∷ v ∷ ws) = w ++ 32 ∷ joined_words (v ∷ ws)
 
 kept_word : (w : List ℕ) (ws : List (List ℕ)) → 0 < length w → filter is_word (w ∷ ws) ≡ w ∷ filter is_word ws
 kept_word w ws h = rw (is_one w h) refl where
   is_one : (w : List ℕ) → 0 < length w → is_word w ≡ true
   is_one w h = grind (arith, common_steps)
 
-pub words_joined : (ws : List (List ℕ)) → AllByRecursion IsWord ws → words_of (joined ws) ≡ ws
+pub words_joined : (ws : List (List ℕ)) → AllByRecursion IsWord ws → words_of (joined_words ws) ≡ ws
 words_joined [] all = refl
 words_joined ([] ∷ ws) all = absurd (omega (arith, all.0.some))
 words_joined ((b ∷ w) ∷ []) all =
     ap (filter is_word) (parts_one is_blank b w (no_blanks (b ∷ w) all.0.plain)) ∙ kept_word (b ∷ w) [] all.0.some
 words_joined ((b ∷ w) ∷ v ∷ ws) all =
-    ap (filter is_word) (parts_at is_blank (b ∷ w) 32 (joined (v ∷ ws)) (no_blanks (b ∷ w) all.0.plain) refl)
-    ∙ kept_word (b ∷ w) (parts is_blank (joined (v ∷ ws))) all.0.some
+    ap (filter is_word) (parts_at is_blank (b ∷ w) 32 (joined_words (v ∷ ws)) (no_blanks (b ∷ w) all.0.plain) refl)
+    ∙ kept_word (b ∷ w) (parts is_blank (joined_words (v ∷ ws))) all.0.some
     ∙ ap (λ vs. (b ∷ w) ∷ vs) (words_joined (v ∷ ws) all.1)
 
 -- a byte of a line that was written
@@ -55,20 +59,22 @@ written_append : (xs ys : List ℕ) → AllByRecursion IsWritten xs → AllByRec
 written_append [] ys p q = q
 written_append (x ∷ xs) ys p q = (p.0, written_append xs ys p.1 q)
 
-plain_written : (w : List ℕ) → AllByRecursion IsPlain w → AllByRecursion IsWritten w
-plain_written [] all = tt
-plain_written (b ∷ w) all = ((omega (arith, all.0.0), all.0.1), plain_written w all.1)
+plain_written : (b : ℕ) → IsPlain b → IsWritten b
+plain_written b h = (omega (arith, h.0), h.1)
 
-pub joined_written : (ws : List (List ℕ)) → AllByRecursion IsWord ws → AllByRecursion IsWritten (joined ws)
+word_written : (w : List ℕ) → AllByRecursion IsPlain w → AllByRecursion IsWritten w
+word_written w = each_too IsPlain IsWritten plain_written w
+
+pub joined_written : (ws : List (List ℕ)) → AllByRecursion IsWord ws → AllByRecursion IsWritten (joined_words ws)
 joined_written [] all = tt
-joined_written (w ∷ []) all = plain_written w all.0.plain
+joined_written (w ∷ []) all = word_written w all.0.plain
 joined_written (w ∷ v ∷ ws) all =
-    written_append w (32 ∷ joined (v ∷ ws)) (plain_written w all.0.plain) ((omega arith, omega arith), joined_written (v ∷ ws) all.1)
+    written_append w (32 ∷ joined_words (v ∷ ws)) (word_written w all.0.plain) ((omega arith, omega arith), joined_written (v ∷ ws) all.1)
 
-written_readable : (b : ℕ) → IsWritten b → is_readable b ≡ true
+written_readable : (b : ℕ) → IsWritten b → is_script_byte b ≡ true
 written_readable b h = grind (arith, common_steps)
 
-pub all_readable : (xs : List ℕ) → AllByRecursion IsWritten xs → list_all is_readable xs ≡ true
+pub all_readable : (xs : List ℕ) → AllByRecursion IsWritten xs → list_all is_script_byte xs ≡ true
 all_readable [] all = refl
 all_readable (x ∷ xs) all = rw (written_readable x all.0) (all_readable xs all.1)
 
@@ -80,11 +86,11 @@ no_return_at (x ∷ xs) (suc i) all = no_return_at xs i all.1
 pub kept_whole : (xs : List ℕ) → AllByRecursion IsWritten xs → without_return xs ≡ xs
 kept_whole xs all = let other = no_return_at xs (length xs - 1) all in grind (arith, common_steps)
 
+no_feed : (b : ℕ) → IsWritten b → is_line_feed b ≡ false
+no_feed b h = grind (arith, common_steps)
+
 written_line : (xs : List ℕ) → AllByRecursion IsWritten xs → AllByRecursion (λ b. is_line_feed b ≡ false) xs
-written_line [] all = tt
-written_line (x ∷ xs) all = (no_feed x all.0, written_line xs all.1) where
-  no_feed : (b : ℕ) → IsWritten b → is_line_feed b ≡ false
-  no_feed b h = grind (arith, common_steps)
+written_line xs = each_too IsWritten (λ b. is_line_feed b ≡ false) no_feed xs
 
 pub line_first : (xs ys : List ℕ) → AllByRecursion IsWritten xs → lines_of (xs ++ 10 ∷ ys) ≡ xs ∷ lines_of ys
 line_first xs ys all = parts_at is_line_feed xs 10 ys (written_line xs all) refl

@@ -3,4 +3,4 @@ pub mod ReadingLemmas
 pub mod JoinLemmas
 pub mod RoundTrip
 pub mod SortLemmas
-pub mod PlaceLemmas
+pub mod StepLemmas

@@ -3,9 +3,11 @@ use Rattle.std.proofs.Common.{◌≡◌, ℕ, ◌+◌, List, [], ◌∷◌, ◌+
 use Rattle.std.specs.List.{AllByRecursion}
 use Rattle.std.proofs.lemmas.List.{drop-drop, get_or-drop}
 use Rattle.std.proofs.lemmas.Grind.{common_steps}
+use Rattle.ras_bits.specs.Results.{◌>>=◌}
+use Rattle.fault_script.specs.declared.lines.TheConstants.{MOST_LINES}
 use Rattle.fault_script.specs.Fits.{FitsRam, AreReadable}
 use Rattle.fault_script.specs.Words.{parts, is_line_feed, lines_of}
-use Rattle.fault_script.specs.Script.{first_lines, lines_in, line_of, at_line, with_line, ◌>>=◌}
+use Rattle.fault_script.specs.Script.{first_lines, lines_in, line_of, at_line, with_line}
 use Rattle.fault_script.specs.declared.lines.Why.{Why}
 use Rattle.fault_script.specs.declared.lines.ScriptLine.{ScriptLine}
 use Rattle.fault_script.specs.declared.lines.ScriptError.{ScriptError}
@@ -69,7 +71,7 @@ pub at_fault : (ram number : ℕ) (taken : List ScriptLine) (rest line behind : 
 at_fault ram number taken rest line behind acted refusal h same e =
     at_line_read ram number taken rest line behind (Err refusal) h (rw same at e)
 
-pub fits_more : (ram : ℕ) (xs : List ScriptLine) (x : ScriptLine) → AreReadable ram xs → length xs ≢ 65536 → FitsRam ram x → AreReadable ram (xs ++ x ∷ [])
+pub fits_more : (ram : ℕ) (xs : List ScriptLine) (x : ScriptLine) → AreReadable ram xs → length xs ≢ MOST_LINES → FitsRam ram x → AreReadable ram (xs ++ x ∷ [])
 fits_more ram xs x all few h = (grind (arith, common_steps), more xs all.1) where
   more : (ys : List ScriptLine) → AllByRecursion (FitsRam ram) ys → AllByRecursion (FitsRam ram) (ys ++ x ∷ [])
   more [] all = (h, tt)

@@ -7,7 +7,7 @@ use Rattle.std.proofs.lemmas.List.Elements.{All-from_recursion, recursion_from_A
 use Rattle.fault_script.specs.Fits.{FitsRam, AreReadable, IsScriptFor}
 use Rattle.std.specs.Ordering.{nat_cmp, is_lt}
 use Rattle.std.proofs.lemmas.Grind.{common_steps}
-use Rattle.fault_script.specs.Steps.{step_of, at_step, InRisingSteps}
+use Rattle.fault_script.specs.Steps.{step_of_line, at_step, InRisingSteps}
 use Rattle.fault_script.specs.declared.lines.ScriptLine.{ScriptLine}
 use Rattle.fault_script.specs.declared.lines.Act.TheVariants as act
 
@@ -15,18 +15,18 @@ abbrev pub Rising : List ScriptLine → Type 0
 Rising [] = Unit {0}
 Rising (x ∷ xs) = AllByRecursion (λ y. x.step ≤ y.step) xs × Rising xs
 
-all_above : (n : ℕ) (xs : List ScriptLine) → ((j : ℕ) (d : ScriptLine) → j < length xs → n ≤ step_of (get_or xs j d)) → AllByRecursion (λ y. n ≤ y.step) xs
+all_above : (n : ℕ) (xs : List ScriptLine) → ((j : ℕ) (d : ScriptLine) → j < length xs → n ≤ step_of_line (get_or xs j d)) → AllByRecursion (λ y. n ≤ y.step) xs
 all_above n [] h = tt
 all_above n (y ∷ ys) h = (h 0 y (omega arith), all_above n ys (λ j d inside. h (suc j) d (omega arith)))
 
-pub rises : (xs : List ScriptLine) → IsNonDecreasingBy step_of xs → Rising xs
+pub rises : (xs : List ScriptLine) → IsNonDecreasingBy step_of_line xs → Rising xs
 rises [] h = tt
 rises (x ∷ xs) h = (all_above x.step xs (λ j d inside. h 0 (suc j) d (omega arith) (omega arith)), rises xs (λ i j d below inside. h (suc i) (suc j) d (omega arith) (omega arith)))
 
 pub different : (m n : ℕ) → m ≢ n → (m == n) ≡ false
 different m n h = grind (arith, common_steps)
 
-equal : (m n : ℕ) → m ≡ n → (m == n) ≡ true
+pub equal : (m n : ℕ) → m ≡ n → (m == n) ≡ true
 equal m n h = grind (arith, common_steps)
 
 pub none_at : (n step : ℕ) (xs : List ScriptLine) → step < n → AllByRecursion (λ y. n ≤ y.step) xs → at_step step xs ≡ []
@@ -81,14 +81,14 @@ filter_same : (p q : ScriptLine → Bool) → ((y : ScriptLine) → p y ≡ q y)
 filter_same p q h [] = refl
 filter_same p q h (x ∷ xs) = ap (λ b. cond b (x ∷ filter p xs) (filter p xs)) (h x) ∙ ap (λ ys. cond (q x) (x ∷ ys) ys) (filter_same p q h xs)
 
-pub by_step : (read lines : List ScriptLine) → IsStableByKey step_of nat_cmp read lines → (step : ℕ) → at_step step lines ≡ at_step step read
+pub by_step : (read lines : List ScriptLine) → IsStableByKey step_of_line nat_cmp read lines → (step : ℕ) → at_step step lines ≡ at_step step read
 by_step read lines stable step =
     sym (filter_same _ _ (λ y. tie_test step y.step) lines)
     ∙ stable (record { step = step; act = act.Scrub 0 })
     ∙ filter_same _ _ (λ y. tie_test step y.step) read
 
 -- lines that were moved into rising steps are a script for the same RAM
-pub moved_fit : (ram : ℕ) (read lines : List ScriptLine) → AreReadable ram read → IsPermutation read lines → IsNonDecreasingBy step_of lines → IsScriptFor ram lines
+pub moved_fit : (ram : ℕ) (read lines : List ScriptLine) → AreReadable ram read → IsPermutation read lines → IsNonDecreasingBy step_of_line lines → IsScriptFor ram lines
 moved_fit ram read lines fits moved rising = record {
   few = omega (arith, length_permutation read lines moved, fits.0);
   fit = recursion_from_All (FitsRam ram) lines (All-permutation (FitsRam ram) read lines moved (All-from_recursion (FitsRam ram) read fits.1));

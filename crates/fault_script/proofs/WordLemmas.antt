@@ -1,10 +1,10 @@
 -- Cutting a list at its separators.
-use Rattle.std.proofs.Common.{◌≡◌, ℕ, suc, zero, ◌+◌, ◌<◌, ◌≤◌, Bool, true, false, not, cond, List, [], ◌∷◌, length, take, drop, refl, ap, sym, ◌∙◌, arith, Option, Some, None, nat_lt, ◌==◌}
+use Rattle.std.proofs.Common.{◌≡◌, ℕ, suc, zero, ◌+◌, ◌<◌, ◌≤◌, Bool, true, false, not, cond, List, [], ◌∷◌, length, take, drop, refl, ap, sym, ◌∙◌, arith, Option, Some, None, nat_lt}
 use Rattle.std.specs.Prelude.{unwrap_or}
 use Rattle.std.specs.List.{onto_first, position_or_len}
 use Rattle.std.proofs.lemmas.Grind.{common_steps}
 use Rattle.std.proofs.lemmas.List.Sums.{prefix_len-le-length}
-use Rattle.fault_script.specs.Words.{parts, is_blank, words_of}
+use Rattle.fault_script.specs.Words.{parts}
 
 parts_step : (p : ℕ → Bool) (b : ℕ) (bs : List ℕ) (t : Bool)
     → (0 < length bs → parts p bs ≡ take (position_or_len p bs) bs ∷ parts p (drop (position_or_len p bs + 1) bs))
@@ -29,24 +29,13 @@ parts_cut p (b ∷ bs) h = parts_step p b bs (p b) (parts_cut p bs)
 pub within : (p : ℕ → Bool) (bs : List ℕ) → position_or_len p bs ≤ length bs
 within p bs = prefix_len-le-length (λ x. not (p x)) bs
 
--- the place that `position` finds, or the length
+-- the index that `position` finds, or the length
 pub found_or_len : (p : ℕ → Bool) (bs : List ℕ) (r : Option ℕ)
     → r ≡ cond (nat_lt (position_or_len p bs) (length bs)) (Some (position_or_len p bs)) None
     → unwrap_or r (length bs) ≡ position_or_len p bs
 found_or_len p bs r h = rw h (chosen (position_or_len p bs) (length bs) (within p bs)) where
   chosen : (n len : ℕ) → n ≤ len → unwrap_or (cond (nat_lt n len) (Some n) None) len ≡ n
   chosen n len h = grind (arith, common_steps)
-
--- a part that is a word, and one that isn't
-pub word_first : (bs w rest : List ℕ) → parts is_blank bs ≡ w ∷ parts is_blank rest → (length w == 0) ≡ false → words_of bs ≡ w ∷ words_of rest
-word_first bs w rest h e = rw (h, e) refl
-
-pub word_passed : (bs w rest : List ℕ) → parts is_blank bs ≡ w ∷ parts is_blank rest → (length w == 0) ≡ true → words_of bs ≡ words_of rest
-word_passed bs w rest h e = rw (h, e) refl
-
-pub no_words : (bs : List ℕ) → length bs ≡ 0 → words_of bs ≡ []
-no_words [] h = refl
-no_words (b ∷ bs) h = absurd (omega arith)
 
 pub drop_next : (xs : List (List ℕ)) (k : ℕ) (y : List ℕ) (ys : List (List ℕ)) → drop k xs ≡ y ∷ ys → drop (k + 1) xs ≡ ys
 drop_next [] zero y ys h = absurd cc

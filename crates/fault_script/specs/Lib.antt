@@ -1,6 +1,6 @@
 pub mod Words
 pub mod Script
 pub mod Steps
-pub mod Text
+pub mod Writing
 pub mod Fits
-pub mod Back
+pub mod ReadBack

@@ -7,6 +7,7 @@ abbrev pub parts : (ℕ → Bool) → List ℕ → List (List ℕ)
 parts p [] = []
 parts p (b ∷ bs) = if p b then [] ∷ parts p bs else onto_first b (parts p bs)
 
+-- a line feed
 abbrev pub is_line_feed : ℕ → Bool
 is_line_feed b = b == 10
 
@@ -14,12 +15,15 @@ is_line_feed b = b == 10
 abbrev pub is_blank : ℕ → Bool
 is_blank b = b == 32 || b == 9
 
+-- a word is not empty
 abbrev pub is_word : List ℕ → Bool
 is_word word = not (length word == 0)
 
+-- the lines of a text, between its line feeds
 abbrev pub lines_of : List ℕ → List (List ℕ)
 lines_of text = parts is_line_feed text
 
+-- the words of a line, between its blanks
 abbrev pub words_of : List ℕ → List (List ℕ)
 words_of line = filter is_word (parts is_blank line)
 

@@ -1,18 +1,17 @@
 //! The fields of a line: numbers in their ranges, addresses and commands.
 
 ghost use Rattle.std.specs.Prelude.{◌≡◌, ◌≤◌, ◌<◌, ◌+◌, ◌*◌, IfOk, true};
-ghost use Rattle.fault_script.specs.Script.{number_within, address_of, command_of, is_place};
+ghost use Rattle.ras_bits.specs.Map.{is_ram};
+ghost use Rattle.fault_script.specs.Script.{number_up_to, address_of, command_of, is_word_address};
 
 use crate::lines::{Command, Why};
+use ras_bits::is_ram;
 use ras_numbers::number;
 
-/// The physical address of the first byte of RAM.
-pub(crate) const RAM_START: u64 = 0x8000_0000;
-
 /// A number that is at most the limit, or the given refusal.
-#[tactic(auto, unfolding(crate::specs::Script::number_within))]
-pub(crate) fn number_within(word: &[u8], limit: u64, refusal: Why) -> Result<u64, Why>
-    ensures exact { result ≡ number_within refusal limit word.now }
+#[tactic(auto, unfolding(crate::specs::Script::number_up_to))]
+pub(crate) fn number_up_to(word: &[u8], limit: u64, refusal: Why) -> Result<u64, Why>
+    ensures exact { result ≡ number_up_to refusal limit word.now }
     ensures bound { IfOk result (λ n. n ≤ limit) }
 {
     match number(word) {
@@ -25,14 +24,13 @@ pub(crate) fn number_within(word: &[u8], limit: u64, refusal: Why) -> Result<u64
 #[tactic(auto, unfolding(crate::specs::Script::address_of))]
 pub(crate) fn address(word: &[u8], ram_words: u32) -> Result<u64, Why>
     ensures exact { result ≡ address_of ram_words word.now }
-    ensures low { IfOk result (λ n. 0x80000000 ≤ n) }
-    ensures high { IfOk result (λ n. n < 0x80000000 + 8 * ram_words) }
-    ensures place { IfOk result (λ n. is_place ram_words n ≡ true) }
+    ensures word { IfOk result (λ n. is_word_address ram_words n ≡ true) }
+    ensures ram { IfOk result (λ n. is_ram ram_words n ≡ true) }
 {
     match number(word) {
         None => Err(Why::Number),
         Some(n) => {
-            if n % 8 == 0 && RAM_START <= n && n < RAM_START + 8 * u64::from(ram_words) {
+            if n % 8 == 0 && is_ram(ram_words, n) {
                 Ok(n)
             } else {
                 Err(Why::Address)

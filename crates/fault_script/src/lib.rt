@@ -15,6 +15,3 @@ mod writing;
 pub use laws::written_reads_back;
 pub use lines::{Act, ScriptError, ScriptLine, Why};
 pub use scripts::Script;
-
-#[cfg(test)]
-mod tests;

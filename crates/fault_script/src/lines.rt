@@ -6,6 +6,9 @@ ghost use Rattle.fault_script.specs.declared.lines.ScriptError.TheVariants.{NoMe
 use std::alloc::{AllocError, AllocFailed};
 use thiserror::Error;
 
+/// How many lines of a script may act.
+pub(crate) const MOST_LINES: usize = 65_536;
+
 /// What a line of a script does to memory.
 #[derive(Clone, Copy, Debug, PartialEq)]
 pub enum Act {

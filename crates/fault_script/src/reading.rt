@@ -2,17 +2,16 @@
 
 ghost use Rattle.std.specs.Prelude.{◌≡◌, ◌<◌, ◌^◌, ◌≢◌, length, IfOk, OnOk, IfSome, OnSome};
 ghost use Rattle.std.specs.List.{list_all};
+ghost use Rattle.fault_script.specs.declared.lines.TheConstants.{MOST_LINES};
 ghost use Rattle.fault_script.specs.Words.{words_of};
 ghost use Rattle.fault_script.specs.Fits.{FitsRamAct, FitsRam, AreReadable};
-ghost use Rattle.fault_script.specs.Script.{flip_of, scrub_of, act_of, word_count, acting_line, is_readable, line_of, lines_in, GivesLines, map_ok};
+ghost use Rattle.fault_script.specs.Script.{flip_of, scrub_of, act_of, word_count, acting_line, is_script_byte, line_of, lines_in, GivesLines, map_ok};
 
-use crate::fields::{RAM_START, address, command, number_within};
-use crate::lines::{Act, Command, ScriptError, ScriptLine, Why};
-use crate::words::{count_words, cut_line, trim_return, word_at};
+use crate::fields::{address, command, number_up_to};
+use crate::lines::{Act, Command, MOST_LINES, ScriptError, ScriptLine, Why};
+use crate::words::{count_words, cut_line, line_word, trim_return};
+use ras_bits::{LAST_STEP, word_at};
 use std::alloc::Global;
-
-// How many lines of a script may act.
-const MOST_LINES: usize = 65536;
 
 // `flip STEP ADDR BIT`, from its third word on.
 #[tactic(auto, unfolding(crate::specs::Script::flip_of))]
@@ -20,10 +19,10 @@ fn flip(line: &[u8], ram_words: u32) -> Result<Act, Why>
     ensures exact { result ≡ flip_of ram_words (words_of line.now) }
     ensures fits { IfOk result (FitsRamAct ram_words) }
 {
-    let address = address(word_at(line, 2), ram_words)?;
-    let bit = number_within(word_at(line, 3), 71, Why::Bit)?;
+    let address = address(line_word(line, 2), ram_words)?;
+    let bit = number_up_to(line_word(line, 3), 71, Why::Bit)?;
     Ok(Act::Flip {
-        w: ((address - RAM_START) / 8) as u32,
+        w: word_at(ram_words, address),
         bit: bit as u8,
     })
 }
@@ -34,9 +33,9 @@ fn scrub(line: &[u8], ram_words: u32) -> Result<Act, Why>
     ensures exact { result ≡ scrub_of ram_words (words_of line.now) }
     ensures fits { IfOk result (FitsRamAct ram_words) }
 {
-    let address = address(word_at(line, 2), ram_words)?;
+    let address = address(line_word(line, 2), ram_words)?;
     Ok(Act::Scrub {
-        w: ((address - RAM_START) / 8) as u32,
+        w: word_at(ram_words, address),
     })
 }
 
@@ -64,22 +63,22 @@ fn word_count(command: Command) -> usize
 fn acting_line(line: &[u8], acted: usize, ram_words: u32) -> Result<ScriptLine, Why>
     ensures exact { result ≡ acting_line ram_words acted (words_of line.now) }
     ensures fits { IfOk result (FitsRam ram_words) }
-    ensures room { OnOk result (acted ≢ 65536) }
+    ensures room { OnOk result (acted ≢ MOST_LINES) }
 {
-    let command = command(word_at(line, 0))?;
+    let command = command(line_word(line, 0))?;
     if count_words(line) != word_count(command) {
         return Err(Why::Count);
     }
     if acted == MOST_LINES {
         return Err(Why::TooMany);
     }
-    let step = number_within(word_at(line, 1), 1_000_000_000, Why::Step)?;
+    let step = number_up_to(line_word(line, 1), LAST_STEP, Why::Step)?;
     let act = act(line, ram_words, command)?;
     Ok(ScriptLine { step, act })
 }
 
 fn is_readable(line: &[u8]) -> bool
-    ensures { result ≡ list_all is_readable line.now }
+    ensures { result ≡ list_all is_script_byte line.now }
 {
     line.iter()
         .all(|byte| (32 <= *byte && *byte <= 126) || *byte == b'\t')
@@ -90,7 +89,7 @@ fn is_readable(line: &[u8]) -> bool
 fn read_line(line: &[u8], acted: usize, ram_words: u32) -> Result<Option<ScriptLine>, Why>
     ensures exact { result ≡ line_of ram_words acted line.now }
     ensures fits { IfOk result (λ r. IfSome r (FitsRam ram_words)) }
-    ensures room { IfOk result (λ r. OnSome r (acted ≢ 65536)) }
+    ensures room { IfOk result (λ r. OnSome r (acted ≢ MOST_LINES)) }
 {
     let line = trim_return(line);
     if !is_readable(line) {
@@ -99,7 +98,7 @@ fn read_line(line: &[u8], acted: usize, ram_words: u32) -> Result<Option<ScriptL
     if count_words(line) == 0 {
         return Ok(None);
     }
-    let word = word_at(line, 0);
+    let word = line_word(line, 0);
     if !word.is_empty() && word[0] == b'#' {
         return Ok(None);
     }

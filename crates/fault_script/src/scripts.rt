@@ -3,9 +3,9 @@
 ghost use Rattle.std.specs.Prelude.{◌≡◌, ℕ, ◌<◌, ◌^◌, length, IfOk};
 ghost use Rattle.fault_script.specs.Script.{lines_in};
 ghost use Rattle.fault_script.specs.Fits.{IsScriptFor};
-ghost use Rattle.fault_script.specs.Text.{text_of};
+ghost use Rattle.fault_script.specs.Writing.{script_text};
 ghost use Rattle.fault_script.specs.Steps.{GivesScript};
-ghost use Rattle.fault_script.specs.Back.{IsReadAs};
+ghost use Rattle.fault_script.specs.ReadBack.{IsReadAs};
 
 use crate::lines::{ScriptError, ScriptLine};
 use crate::reading::read_lines;
@@ -30,10 +30,10 @@ impl Model for Script {
 }
 
 impl Script {
-    /// The script that a text is, for a RAM of `ram_words` words of 8 bytes from 0x80000000 on.
+    /// The script that a text is, for a RAM of `ram_words` words of 8 bytes.
     ///
-    /// A text has lines of words. Lines are parted by line feeds, and the last may lack one; a
-    /// carriage return at the end of a line is passed over; words are parted by spaces and tabs. A
+    /// A text has lines of words. Lines are separated by line feeds, and the last may lack one; a
+    /// carriage return at the end of a line is ignored; words are separated by spaces and tabs. A
     /// line with no word, or whose first word begins with `#`, does nothing. The others are
     /// `flip STEP ADDR BIT` and `scrub STEP ADDR`, with numbers in decimal digits, or `0x` and
     /// hexadecimal digits.
@@ -65,7 +65,7 @@ impl Script {
     /// numbers decimal, a line feed after each line. Read for a RAM that the script is for, it is
     /// this script again. `NoMemory` is want of memory.
     pub fn write(&self, alloc: Global) -> Result<Vec<u8>, NoMemory>
-        ensures text { IfOk result (λ v. v.items ≡ text_of self.now) }
+        ensures text { IfOk result (λ v. v.items ≡ script_text self.now) }
         ensures reads_back { IfOk result (λ v. (ram_words : ℕ) → ram_words < 2 ^ 32 → IsScriptFor ram_words self.now → IsReadAs ram_words v.items self.now) }
     {
         write_lines(alloc, &self.lines)

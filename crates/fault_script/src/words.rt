@@ -72,7 +72,7 @@ pub(crate) fn next_word(line: &[u8]) -> Option<(&[u8], &[u8])>
 }
 
 /// The word with this number, or nothing.
-pub(crate) fn word_at(line: &[u8], number: usize) -> &[u8]
+pub(crate) fn line_word(line: &[u8], number: usize) -> &[u8]
     ensures { result.now ≡ get_or (words_of line.now) number [] }
 {
     let mut rest = line;

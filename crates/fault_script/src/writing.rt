@@ -1,12 +1,11 @@
 //! The canonical text of a script.
 
 ghost use Rattle.std.specs.Prelude.{◌≡◌, ◌++◌, decimal, OnOk, IfOk};
-ghost use Rattle.fault_script.specs.Text.{place_text, line_text, text_of};
+ghost use Rattle.fault_script.specs.Writing.{word_address_text, line_text, script_text};
 
-use crate::fields::RAM_START;
 use crate::lines::{Act, ScriptLine};
 use itoa::Buffer;
-use ras_bits::NoMemory;
+use ras_bits::{NoMemory, word_address};
 use std::alloc::{AllocError, Global};
 
 fn push_number(out: &mut Vec<u8>, n: u64) -> Result<(), AllocError>
@@ -17,10 +16,10 @@ fn push_number(out: &mut Vec<u8>, n: u64) -> Result<(), AllocError>
 }
 
 // The address of a word of RAM.
-fn push_place(out: &mut Vec<u8>, w: u32) -> Result<(), AllocError>
-    ensures { OnOk result (out.new.items ≡ out.old.items ++ place_text w) }
+fn push_address(out: &mut Vec<u8>, w: u32) -> Result<(), AllocError>
+    ensures { OnOk result (out.new.items ≡ out.old.items ++ word_address_text w) }
 {
-    out.extend_from_slice(&ras_numbers::address(RAM_START + 8 * u64::from(w)))
+    out.extend_from_slice(&ras_numbers::address(word_address(w)))
 }
 
 fn push_line(out: &mut Vec<u8>, line: &ScriptLine) -> Result<(), AllocError>
@@ -31,7 +30,7 @@ fn push_line(out: &mut Vec<u8>, line: &ScriptLine) -> Result<(), AllocError>
             out.extend_from_slice(b"flip ")?;
             push_number(out, line.step)?;
             out.extend_from_slice(b" ")?;
-            push_place(out, w)?;
+            push_address(out, w)?;
             out.extend_from_slice(b" ")?;
             push_number(out, u64::from(bit))?;
             out.extend_from_slice(b"\n")
@@ -40,7 +39,7 @@ fn push_line(out: &mut Vec<u8>, line: &ScriptLine) -> Result<(), AllocError>
             out.extend_from_slice(b"scrub ")?;
             push_number(out, line.step)?;
             out.extend_from_slice(b" ")?;
-            push_place(out, w)?;
+            push_address(out, w)?;
             out.extend_from_slice(b"\n")
         }
     }
@@ -48,7 +47,7 @@ fn push_line(out: &mut Vec<u8>, line: &ScriptLine) -> Result<(), AllocError>
 
 /// The canonical text of lines.
 pub(crate) fn write_lines(alloc: Global, lines: &[ScriptLine]) -> Result<Vec<u8>, NoMemory>
-    ensures { IfOk result (λ v. v.items ≡ text_of lines.now) }
+    ensures { IfOk result (λ v. v.items ≡ script_text lines.now) }
 {
     let mut out = Vec::new(alloc);
     for line in lines {

@@ -1,8 +1,0 @@
-use Rattle.std.proofs.Common.{ℕ, ◌+◌}
-use Rattle.elf_load.specs.Memory.{HoldsBytes}
-use Rattle.elf_load.specs.Bytes.{with_part}
-use Rattle.elf_load.proofs.ram.write_bytes.Given as goal
-
-abbrev pub invariant-loop-i : goal.invariant-loop-i
-invariant-loop-i l = (memory : ℕ → ℕ) → HoldsBytes l.fn.words (with_part l.part (0x80000000 + l.at) l.from memory)
-    → HoldsBytes l.words (with_part l.part (0x80000000 + l.at) l.i memory)
