@@ -4,17 +4,17 @@ use Rattle.std.proofs.Math.Seq.{take-length}
 use Rattle.std.proofs.lemmas.Bool.{le-ltb, lt-ltb, le-leb}
 use Rattle.std.proofs.lemmas.Bool.Decides.{nat_tests}
 use Rattle.std.proofs.lemmas.List.{take-append-le, drop-append-le}
-use Rattle.ras_host.specs.Told.{Bytes, Call, Told, IsWhole, Appended}
+use Rattle.ras_host.specs.Told.{Bytes, HostCall, Told, IsWhole, Appended}
 use Rattle.ras_host.specs.Names.{kept_calls, names_len}
 use Rattle.ras_host.specs.Calls.{names_of, noted, is_kept, told_calls}
 use Rattle.ras_host.specs.declared.call_log.CallLog.{CallLog}
 use Rattle.ras_host.specs.declared.call_log.MadeCall.{MadeCall}
 
-abbrev told : List Call → ℕ → Told Call
+abbrev told : List HostCall → ℕ → Told HostCall
 told kept total = record { kept = kept; total = total }
 
-abbrev named : MadeCall → Bytes → Call
-named m name = record { kind = m.kind; name = name; limit = m.limit }
+abbrev named_call : MadeCall → Bytes → HostCall
+named_call m name = record { kind = m.kind; name = name; limit = m.limit }
 
 pub length_kept : (ms : List MadeCall) (names : Bytes) → length (kept_calls ms names) ≡ length ms
 length_kept [] names = refl
@@ -34,17 +34,17 @@ names_of_kept (m ∷ ms) names h =
 
 -- one more call, with its name behind the others
 pub kept_calls-append : (ms : List MadeCall) (m : MadeCall) (names name : Bytes) → names_len ms ≡ length names → m.name_len ≡ length name
-    → kept_calls (ms ++ m ∷ []) (names ++ name) ≡ kept_calls ms names ++ named m name ∷ []
+    → kept_calls (ms ++ m ∷ []) (names ++ name) ≡ kept_calls ms names ++ named_call m name ∷ []
 kept_calls-append [] m [] name h l = rw (l, take-length) refl
 kept_calls-append [] m (x ∷ xs) name h l = absurd (omega arith)
 kept_calls-append (n ∷ ms) m names name h l =
     let inside : n.name_len ≤ length names = omega arith in
     let rest : names_len ms ≡ length (drop n.name_len names) = omega (arith, length-drop n.name_len names) in
     rw (take-append-le n.name_len names name inside, drop-append-le n.name_len names name inside)
-    (ap (λ l. named n (take n.name_len names) ∷ l) (kept_calls-append ms m (drop n.name_len names) name rest l))
+    (ap (λ l. named_call n (take n.name_len names) ∷ l) (kept_calls-append ms m (drop n.name_len names) name rest l))
 
 -- what a call appends: it is kept or only counted
-pub noted_appended : (room : ℕ) (before : Told Call) (call : Call) → length before.kept ≤ before.total → length before.kept ≤ 64
+pub noted_appended : (room : ℕ) (before : Told HostCall) (call : HostCall) → length before.kept ≤ before.total → length before.kept ≤ 64
     → Appended before (noted room before call) (call ∷ [])
 noted_appended room before call c f = elim (is_kept room before.kept call) as (λ t. Appended before
     (told (cond t (before.kept ++ call ∷ []) before.kept) (min (before.total + 1) (2 ^ 64 - 1))) (call ∷ [])) [
@@ -64,19 +64,19 @@ noted_appended room before call c f = elim (is_kept room before.kept call) as (�
     missed : (k n : ℕ) → k ≤ n → k ≤ 64 → k ≡ min (n + 1) (2 ^ 64 - 1) → ⊥
     missed k n c f w = omega arith
 
-not_kept : (room : ℕ) (before : Told Call) (call : Call) (m : ℕ) → is_kept room before.kept call ≡ false → m ≡ min (before.total + 1) (2 ^ 64 - 1)
+not_kept : (room : ℕ) (before : Told HostCall) (call : HostCall) (m : ℕ) → is_kept room before.kept call ≡ false → m ≡ min (before.total + 1) (2 ^ 64 - 1)
     → told before.kept m ≡ noted room before call
 not_kept room before call m h e = rw (h, e) refl
 
 -- a call that comes when 64 are kept
-pub noted_full : (room : ℕ) (ms : List MadeCall) (names : Bytes) (call : Call) (n m : ℕ) → 64 ≤ length ms → m ≡ min (n + 1) (2 ^ 64 - 1)
+pub noted_full : (room : ℕ) (ms : List MadeCall) (names : Bytes) (call : HostCall) (n m : ℕ) → 64 ≤ length ms → m ≡ min (n + 1) (2 ^ 64 - 1)
     → told (kept_calls ms names) m ≡ noted room (told (kept_calls ms names) n) call
 noted_full room ms names call n m f e =
     let full : 64 ≤ length (kept_calls ms names) = rw (length_kept ms names) f in
     not_kept room (told (kept_calls ms names) n) call m (rw (le-ltb (length (kept_calls ms names)) 64 full) refl) e
 
 -- a call whose name does not fit
-pub noted_unfit : (room : ℕ) (ms : List MadeCall) (names : Bytes) (call : Call) (n m : ℕ) → names_len ms ≡ length names → room < length names + length call.name
+pub noted_unfit : (room : ℕ) (ms : List MadeCall) (names : Bytes) (call : HostCall) (n m : ℕ) → names_len ms ≡ length names → room < length names + length call.name
     → m ≡ min (n + 1) (2 ^ 64 - 1) → told (kept_calls ms names) m ≡ noted room (told (kept_calls ms names) n) call
 noted_unfit room ms names call n m h u e =
     let over : room < names_of (kept_calls ms names) + length call.name = rw (names_of_kept ms names h) u in
@@ -85,7 +85,7 @@ noted_unfit room ms names call n m h u e =
 -- a call that is kept
 pub noted_kept : (room : ℕ) (ms : List MadeCall) (made : MadeCall) (names name : Bytes) (n m : ℕ) → names_len ms ≡ length names → made.name_len ≡ length name
     → length ms < 64 → length names + length name ≤ room → m ≡ min (n + 1) (2 ^ 64 - 1)
-    → told (kept_calls (ms ++ made ∷ []) (names ++ name)) m ≡ noted room (told (kept_calls ms names) n) (named made name)
+    → told (kept_calls (ms ++ made ∷ []) (names ++ name)) m ≡ noted room (told (kept_calls ms names) n) (named_call made name)
 noted_kept room ms made names name n m h l f r e =
     let few : length (kept_calls ms names) < 64 = rw (length_kept ms names) f in
     let fits : names_of (kept_calls ms names) + length name ≤ room = rw (names_of_kept ms names h) r in
@@ -101,7 +101,7 @@ pub pushed_named : (ms : List MadeCall) (made : MadeCall) (names name : Bytes) �
 pushed_named ms made names name h l = names_len-append ms made ∙ sym (length-append names name ∙ omega arith)
 
 -- what a log appends for a call
-pub log_appended : (log : CallLog) (call : Call) → Appended (told_calls log) (noted log.room (told_calls log) call) (call ∷ [])
+pub log_appended : (log : CallLog) (call : HostCall) → Appended (told_calls log) (noted log.room (told_calls log) call) (call ∷ [])
 log_appended log call =
     let same = length_kept log.made.items log.names.items in
     noted_appended log.room (told_calls log) call (rw same log.counted) (rw same log.few)

@@ -1,3 +1,3 @@
-pub mod ToldLemmas
 pub mod CallLemmas
+pub mod ReadLemmas
 pub mod CreatedLemmas

@@ -1,11 +1,13 @@
 pub mod Causes
 pub mod Told
+pub mod ToldLaws
 pub mod Reads
 pub mod Names
 pub mod Calls
 pub mod Stored
 pub mod Pieces
 pub mod Created
+pub mod Held
 pub mod Memory
 pub mod MemoryHost
 pub mod Steady

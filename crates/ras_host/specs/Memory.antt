@@ -1,8 +1,8 @@
 -- A host in memory, as its callers see it, and what each call makes of it.
-use Rattle.std.specs.Prelude.{◌≡◌, ◌+◌, ◌-◌, ◌^◌, min, ℕ, List, [], ◌∷◌, ◌++◌, length, Some, is_none, Bool, cond, ◌||◌, ◌==◌, nat_lt}
+use Rattle.std.specs.Prelude.{◌≡◌, ◌+◌, ◌-◌, ◌^◌, min, ℕ, List, [], ◌++◌, length, Some, is_none, Bool, cond, ◌||◌, ◌==◌, nat_lt}
 use Rattle.std.specs.List.{list_any}
 use Rattle.std.specs.Str.{bytes_eq}
-use Rattle.ras_host.specs.Told.{Bytes, File, CreatedFile, Call, Outside, Told, contents, created_of}
+use Rattle.ras_host.specs.Told.{Bytes, File, CreatedFile, HostCall, Outside, Told, contents, created_of}
 use Rattle.ras_host.specs.Calls.{noted}
 use Rattle.ras_host.specs.declared.call_log.CallKind.TheVariants as kind
 
@@ -12,7 +12,7 @@ pub record MemoryState : Type 0 where
   pub out : Bytes
   pub err : Bytes
   pub created : List CreatedFile
-  pub calls : Told Call
+  pub calls : Told HostCall
   pub room : ℕ
   pub used : ℕ
   pub failing : List ℕ
@@ -30,12 +30,8 @@ told_memory s = record { files = Some s.files; out = Some (whole s.out); err = S
 abbrev pub fresh : ℕ → MemoryState
 fresh room = record { files = []; out = []; err = []; created = []; calls = record { kept = []; total = 0 }; room = room; used = 0; failing = []; faults = 0 }
 
--- a file of that name is read from now on
-abbrev pub with_file : MemoryState → Bytes → Bytes → MemoryState
-with_file s name bytes = record s { files = record { name = name; bytes = bytes } ∷ s.files }
-
 -- a call was noted
-abbrev pub begun : MemoryState → Call → MemoryState
+abbrev pub begun : MemoryState → HostCall → MemoryState
 begun s call = record s { calls = noted s.room s.calls call }
 
 -- a fault was counted
@@ -55,7 +51,7 @@ abbrev pub write_fails : MemoryState → ℕ → Bool
 write_fails s bytes = is_set_to_fail s || nat_lt s.room (s.used + bytes)
 
 -- the host after a call that fails or does not
-abbrev pub after : Bool → Call → MemoryState → (MemoryState → MemoryState) → MemoryState
+abbrev pub after : Bool → HostCall → MemoryState → (MemoryState → MemoryState) → MemoryState
 after fails call s does = cond fails (failed (begun s call)) (does (begun s call))
 
 -- the host after a call that reads a file

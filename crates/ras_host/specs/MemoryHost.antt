@@ -1,5 +1,5 @@
 -- How a host in memory is kept.
-use Rattle.std.specs.Prelude.{◌≡◌, ◌≤◌, map, vec_len, vec_capacity}
+use Rattle.std.specs.Prelude.{map}
 use Rattle.ras_host.specs.Calls.{told_calls}
 use Rattle.ras_host.specs.Created.{told_created}
 use Rattle.ras_host.specs.Memory.{MemoryState}
@@ -19,14 +19,3 @@ state_of h = record {
   failing = h.failing.items;
   faults = h.faults;
 }
-
--- the buffers have the room that is left
-pub record IsHeld (h : Inside) : Type 0 where
-  pub in_room : h.used ≤ h.room
-  pub out_used : vec_len h.out ≤ h.used
-  pub err_used : vec_len h.err ≤ h.used
-  pub out_room : h.room ≤ vec_capacity h.out
-  pub err_room : h.room ≤ vec_capacity h.err
-  pub created_used : vec_len h.created.bytes ≤ h.used
-  pub created_room : h.created.room ≡ h.room
-  pub log_room : h.log.room ≡ h.room

@@ -1,7 +1,6 @@
 -- A host whose calls never fail, as its callers see it, and what each call makes of it.
-use Rattle.std.specs.Prelude.{◌≡◌, ◌+◌, ◌-◌, ◌^◌, ◌≤◌, ◌<◌, min, ℕ, List, [], ◌∷◌, ◌++◌, length, take, Option, Some, None, MatchOption, option_and_then}
-use Rattle.ras_host.specs.Told.{Bytes, File, CreatedFile, Call, Outside, Told, created_of}
-use Rattle.ras_host.specs.Calls.{noted}
+use Rattle.std.specs.Prelude.{◌≡◌, ◌+◌, ◌-◌, ◌^◌, ◌≤◌, ◌<◌, min, ℕ, List, [], ◌++◌, length, take, Option, Some, None, MatchOption, option_and_then}
+use Rattle.ras_host.specs.Told.{Bytes, File, CreatedFile, HostCall, Outside, Told, created_of}
 use Rattle.ras_host.specs.Memory.{IsMade}
 
 -- a host whose calls never fail; `used` counts the bytes of all writes, up to `room`
@@ -10,7 +9,7 @@ pub record SteadyState : Type 0 where
   pub out : Told ℕ
   pub err : Told ℕ
   pub created : Option (List CreatedFile)
-  pub calls : Told Call
+  pub calls : Told HostCall
   pub room : ℕ
   pub used : ℕ
 
@@ -25,14 +24,6 @@ nothing = record { kept = []; total = 0 }
 -- a host on which nothing was done
 abbrev pub fresh_steady : ℕ → SteadyState
 fresh_steady room = record { files = []; out = nothing; err = nothing; created = Some []; calls = nothing; room = room; used = 0 }
-
--- a file of that name is read from now on
-abbrev pub with_steady_file : SteadyState → Bytes → Bytes → SteadyState
-with_steady_file s name bytes = record s { files = record { name = name; bytes = bytes } ∷ s.files }
-
--- a call was noted
-abbrev pub begun_steady : SteadyState → Call → SteadyState
-begun_steady s call = record s { calls = noted s.room s.calls call }
 
 -- the bytes were written where so much room is free: the front that fits is kept, all are counted
 abbrev pub wrote : Told ℕ → ℕ → Bytes → Told ℕ

@@ -1,7 +1,8 @@
 -- How a host whose calls never fail is kept.
-use Rattle.std.specs.Prelude.{◌≡◌, ◌≤◌, map, vec_len, vec_capacity, Some, None, cond}
+use Rattle.std.specs.Prelude.{◌≤◌, map, vec_len, Some, None, cond}
 use Rattle.ras_host.specs.Calls.{told_calls}
 use Rattle.ras_host.specs.Created.{told_created}
+use Rattle.ras_host.specs.Held.{IsHeld}
 use Rattle.ras_host.specs.Steady.{SteadyState}
 use Rattle.ras_host.specs.Stored.{file_of}
 use Rattle.ras_host.specs.declared.steady.SteadyHost.TheInside.{Inside}
@@ -18,15 +19,8 @@ steady_of h = record {
   used = h.used;
 }
 
--- the buffers have the room that is left
+-- the buffers have the room that is left, and no more is kept than counted
 pub record IsSteadyHeld (h : Inside) : Type 0 where
-  pub in_room : h.used ≤ h.room
-  pub out_used : vec_len h.out ≤ h.used
-  pub err_used : vec_len h.err ≤ h.used
+  pub held : IsHeld h.room h.used h.out h.err h.created h.log
   pub out_counted : vec_len h.out ≤ h.out_total
   pub err_counted : vec_len h.err ≤ h.err_total
-  pub out_room : h.room ≤ vec_capacity h.out
-  pub err_room : h.room ≤ vec_capacity h.err
-  pub created_used : vec_len h.created.bytes ≤ h.used
-  pub created_room : h.created.room ≡ h.room
-  pub log_room : h.log.room ≡ h.room

@@ -1,5 +1,6 @@
 -- What a host tells of the outside, and what a list of host calls does to it.
 use Rattle.std.specs.Prelude.{◌≡◌, ℕ, ◌+◌, ◌-◌, ◌^◌, min, cond, unwrap_or, List, [], ◌∷◌, ◌++◌, length, Option, Some, None, MatchOption, IfSome, IsSomeAnd}
+use Rattle.std.specs.List.{flat_map}
 use Rattle.std.specs.Str.{bytes_eq}
 use Rattle.ras_host.specs.declared.call_log.CallKind.{CallKind}
 use Rattle.ras_host.specs.declared.call_log.CallKind.TheVariants as kind
@@ -28,7 +29,7 @@ pub record CreatedFile : Type 0 where
   pub bytes : Told ℕ
 
 -- a host call, as it was made; a call without a name or a limit has none there, and 0
-pub record Call : Type 0 where
+pub record HostCall : Type 0 where
   pub kind : CallKind
   pub name : Bytes
   pub limit : ℕ
@@ -39,7 +40,7 @@ pub record Outside : Type 0 where
   pub out : Option (Told ℕ)
   pub err : Option (Told ℕ)
   pub created : Option (List CreatedFile)
-  pub calls : Option (Told Call)
+  pub calls : Option (Told HostCall)
 
 -- the bytes of the first file of that name
 abbrev pub contents : List File → Bytes → Option Bytes
@@ -56,48 +57,46 @@ created_of [] name = None
 created_of (file ∷ files) name = cond (bytes_eq file.name name) (Some file.bytes) (created_of files name)
 
 -- a host call with what it did: a call that failed wrote a part of its bytes, or made no file
-pub data Action : Type 0 where
-  Read : (name : Bytes) → (limit : ℕ) → Action
-  Create : (name : Bytes) → (bytes : Bytes) → Action
-  MissCreate : (name : Bytes) → Action
-  Out : (bytes : Bytes) → Action
-  Err : (bytes : Bytes) → Action
+pub data HostAction : Type 0 where
+  Read : (name : Bytes) → (limit : ℕ) → HostAction
+  Create : (name : Bytes) → (bytes : Bytes) → HostAction
+  MissCreate : (name : Bytes) → HostAction
+  Out : (bytes : Bytes) → HostAction
+  Err : (bytes : Bytes) → HostAction
 
 -- the call that an action is
-abbrev pub call_of : Action → Call
-call_of (Read name limit) = record { kind = kind.Read; name = name; limit = limit }
-call_of (Create name bytes) = record { kind = kind.Create; name = name; limit = 0 }
-call_of (MissCreate name) = record { kind = kind.Create; name = name; limit = 0 }
-call_of (Out bytes) = record { kind = kind.Out; name = []; limit = 0 }
-call_of (Err bytes) = record { kind = kind.Err; name = []; limit = 0 }
+abbrev pub host_call_of : HostAction → HostCall
+host_call_of (Read name limit) = record { kind = kind.Read; name = name; limit = limit }
+host_call_of (Create name bytes) = record { kind = kind.Create; name = name; limit = 0 }
+host_call_of (MissCreate name) = record { kind = kind.Create; name = name; limit = 0 }
+host_call_of (Out bytes) = record { kind = kind.Out; name = []; limit = 0 }
+host_call_of (Err bytes) = record { kind = kind.Err; name = []; limit = 0 }
 
 -- the calls that actions are
-abbrev pub calls_of : List Action → List Call
+abbrev pub calls_of : List HostAction → List HostCall
 calls_of [] = []
-calls_of (action ∷ actions) = call_of action ∷ calls_of actions
+calls_of (action ∷ actions) = host_call_of action ∷ calls_of actions
 
 -- what an action writes to standard output
-abbrev pub out_by : Action → Bytes
+abbrev pub out_by : HostAction → Bytes
 out_by (Out bytes) = bytes
 out_by _ = []
 
 -- what actions write to standard output, in order
-abbrev pub out_of : List Action → Bytes
-out_of [] = []
-out_of (action ∷ actions) = out_by action ++ out_of actions
+abbrev pub out_of : List HostAction → Bytes
+out_of actions = flat_map out_by actions
 
 -- what an action writes to standard error
-abbrev pub err_by : Action → Bytes
+abbrev pub err_by : HostAction → Bytes
 err_by (Err bytes) = bytes
 err_by _ = []
 
 -- what actions write to standard error, in order
-abbrev pub err_of : List Action → Bytes
-err_of [] = []
-err_of (action ∷ actions) = err_by action ++ err_of actions
+abbrev pub err_of : List HostAction → Bytes
+err_of actions = flat_map err_by actions
 
 -- the bytes of the file of that name, if the action makes it
-abbrev pub made_by : Action → Bytes → Option Bytes
+abbrev pub made_by : HostAction → Bytes → Option Bytes
 made_by (Create made bytes) name = cond (bytes_eq made name) (Some bytes) None
 made_by _ name = None
 
@@ -107,7 +106,7 @@ later_of None earlier = earlier
 later_of (Some bytes) earlier = Some bytes
 
 -- the bytes of the last file of the name that the actions make
-abbrev pub made_of : List Action → Bytes → Option Bytes
+abbrev pub made_of : List HostAction → Bytes → Option Bytes
 made_of [] name = None
 made_of (action ∷ actions) name = later_of (made_of actions name) (made_by action name)
 
@@ -128,14 +127,14 @@ pub record IsFileOf (told : Told ℕ) (bytes : Bytes) : Type 0 where
   pub kept : IsWhole told → told.kept ≡ bytes
 
 -- each file is the last one made of its name, or as before; a host may cease to tell
-abbrev pub Creates : Option (List CreatedFile) → Option (List CreatedFile) → List Action → Type 0
+abbrev pub Creates : Option (List CreatedFile) → Option (List CreatedFile) → List HostAction → Type 0
 Creates before after actions =
     MatchOption before (after ≡ None) (λ b. IfSome after (λ a. (name : Bytes) →
     MatchOption (made_of actions name) (created_of a name ≡ created_of b name)
     (λ bytes. IsSomeAnd (created_of a name) (λ told. IsFileOf told bytes))))
 
 -- the actions and nothing else were done
-pub record Performs (before after : Outside) (actions : List Action) : Type 0 where
+pub record Performs (before after : Outside) (actions : List HostAction) : Type 0 where
   pub files : after.files ≡ before.files
   pub out : Appends before.out after.out (out_of actions)
   pub err : Appends before.err after.err (err_of actions)

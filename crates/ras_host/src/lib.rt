@@ -18,6 +18,3 @@ pub use memory::MemoryHost;
 pub use outside::{Got, Host, HostError, HostFault};
 pub use real::RealHost;
 pub use steady::SteadyHost;
-
-#[cfg(test)]
-mod tests;

@@ -2,8 +2,9 @@
 
 ghost use Rattle.std.specs.Prelude.{◌≡◌, ◌≢◌, ◌+◌, ◌-◌, ◌^◌, ◌≤◌, ◌<◌, ◌↔◌, ◌⊎◌, ◌++◌, ℕ, [], ◌∷◌, take, length, IfOk, OnOk, OnErr, IsOk, IsErr, IfSome, IsTrue, Some, None, cond, not, is_ok, option_map};
 ghost use Rattle.ras_host.specs.Causes.{Rose};
-ghost use Rattle.ras_host.specs.Memory.{MemoryState, told_memory, fresh, with_file, begun, failed, is_set_to_fail, read_fails, write_fails, after_read, after_out, after_err, after_create, whole, IsMade};
+ghost use Rattle.ras_host.specs.Memory.{MemoryState, told_memory, fresh, begun, failed, is_set_to_fail, read_fails, write_fails, after_read, after_out, after_err, after_create, whole, IsMade};
 ghost use Rattle.ras_host.specs.Reads.{Gets, FitsIn};
+ghost use Rattle.ras_host.specs.Stored.{with_file};
 ghost use Rattle.ras_host.specs.Told.{Performs, Read, Create, MissCreate, Out, Err as ErrAction, Appended, bytes_of, created_of};
 
 use crate::buffer::append;
@@ -39,11 +40,12 @@ impl Model for MemoryHost {
 
     ghost Value = { MemoryState };
 
-    ghost use Rattle.ras_host.specs.MemoryHost.{state_of, IsHeld};
+    ghost use Rattle.ras_host.specs.Held.{IsHeld};
+    ghost use Rattle.ras_host.specs.MemoryHost.{state_of};
 
     ghost view = { state_of };
 
-    ghost invariant = { IsHeld };
+    ghost invariant = { λ h. IsHeld h.room h.used h.out h.err h.created h.log };
 }
 
 impl MemoryHost {
@@ -71,7 +73,7 @@ impl MemoryHost {
 
     /// Adds a file, in place of an earlier one of that name.
     pub fn add_file(&mut self, name: &str, bytes: &[u8]) -> Result<(), NoMemory>
-        ensures ok { OnOk result (self.new ≡ with_file self.old name.now bytes.now) }
+        ensures ok { OnOk result (self.new ≡ record self.old { files = with_file self.old.files name.now bytes.now }) }
         ensures err { OnErr result (self.new ≡ self.old) }
     {
         let name = String::from_str(self.alloc, name)?;

@@ -51,7 +51,7 @@ pub trait Host {
 
     /// Makes a file of these bytes, in place of an earlier one of that name.
     ///
-    /// Where it fails, the file holds a front part of the bytes or was not made.
+    /// Where it fails, the file holds a prefix of the bytes or was not made.
     fn create(&mut self, name: &str, bytes: &[u8]) -> Result<(), HostFault>
         ensures ok { OnOk result (Performs (told self.old) (told self.new) (Create name.now bytes.now ∷ [])) }
         ensures err { OnErr result (Performs (told self.old) (told self.new) (MissCreate name.now ∷ [])
@@ -59,14 +59,14 @@ pub trait Host {
         ensures later { faults self.old ≤ faults self.new }
         ensures failed { OnErr result (Rose (faults self.old) (faults self.new)) };
 
-    /// Appends the bytes to standard output; where it fails, a front part of them.
+    /// Appends the bytes to standard output; where it fails, a prefix of them.
     fn out(&mut self, bytes: &[u8]) -> Result<(), HostFault>
         ensures ok { OnOk result (Performs (told self.old) (told self.new) (Out bytes.now ∷ [])) }
         ensures err { OnErr result ((n : ℕ) × Performs (told self.old) (told self.new) (Out (take n bytes.now) ∷ [])) }
         ensures later { faults self.old ≤ faults self.new }
         ensures failed { OnErr result (Rose (faults self.old) (faults self.new)) };
 
-    /// Appends the bytes to standard error; where it fails, a front part of them.
+    /// Appends the bytes to standard error; where it fails, a prefix of them.
     fn err(&mut self, bytes: &[u8]) -> Result<(), HostFault>
         ensures ok { OnOk result (Performs (told self.old) (told self.new) (ErrAction bytes.now ∷ [])) }
         ensures err { OnErr result ((n : ℕ) × Performs (told self.old) (told self.new) (ErrAction (take n bytes.now) ∷ [])) }

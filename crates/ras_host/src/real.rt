@@ -1,9 +1,9 @@
 //! The outside of a runtime: the trusted edge.
 
-ghost use Rattle.std.specs.Prelude.{◌≡◌, ℕ, ◌+◌, ◌≤◌, IfOk};
+ghost use Rattle.std.specs.Prelude.{◌≡◌, ℕ, ◌+◌, ◌≤◌, IfOk, IfSome};
 ghost use Rattle.ras_host.specs.Causes.{Rose};
 ghost use Rattle.ras_host.specs.Told.{untold};
-ghost use Rattle.ras_host.specs.Reads.{FitsIn};
+ghost use Rattle.ras_host.specs.Reads.{Gets, FitsIn, TakesAtMost};
 
 use crate::outside::{Got, Host, HostError, HostFault};
 use std::alloc::Global;
@@ -37,9 +37,12 @@ impl<R: Files + Print + Eprint + Drop> RealHost<R> {
     }
 }
 
-// Reads to the end, or one byte past `limit`.
+// Reads to the end, or one byte past `limit`, and answers what was read, where the reader's bytes are
+// known.
 fn read_within<R: Read>(alloc: Global, reader: &mut R, limit: u64) -> Result<Got, HostError>
-    ensures { IfOk result (FitsIn limit) }
+    ensures fits { IfOk result (FitsIn limit) }
+    ensures got { IfOk result (λ got. IfSome (R.remaining reader.old) (λ bytes. Gets bytes limit got)) }
+    ensures taken { TakesAtMost (limit + 1) (R.remaining reader.old) (R.remaining reader.new) }
 {
     let mut bytes = Vec::new(alloc);
     let mut left = limit;

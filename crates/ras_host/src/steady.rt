@@ -3,7 +3,9 @@
 ghost use Rattle.std.specs.Prelude.{◌≡◌, ◌≢◌, ◌+◌, ◌-◌, ◌≤◌, ◌⊎◌, ℕ, [], ◌∷◌, take, length, IfOk, OnOk, OnErr, IsOk, IfSome, option_map};
 ghost use Rattle.ras_host.specs.Causes.{Rose};
 ghost use Rattle.ras_host.specs.Reads.{Gets, FitsIn};
-ghost use Rattle.ras_host.specs.Steady.{SteadyState, told_steady, fresh_steady, with_steady_file, begun_steady, wrote, used_by, IsMadeSteady, told_file};
+ghost use Rattle.ras_host.specs.Steady.{SteadyState, told_steady, fresh_steady, wrote, used_by, IsMadeSteady, told_file};
+ghost use Rattle.ras_host.specs.Calls.{noted};
+ghost use Rattle.ras_host.specs.Stored.{with_file};
 ghost use Rattle.ras_host.specs.Told.{Performs, Read, Create, MissCreate, Out, Err as ErrAction, Appended, bytes_of, created_of};
 
 use crate::buffer::append;
@@ -18,7 +20,7 @@ use std::marker::Model;
 /// A host in memory whose calls never fail.
 ///
 /// A name that it lacks reads as an empty file. Where the bytes of all writes, with the names of
-/// created files, pass `room`, it tells the front part that fits, and the number of all. Once a
+/// created files, pass `room`, it tells the prefix that fits, and the number of all. Once a
 /// name does not fit, it tells of no created file any more.
 #[derive(Drop)]
 pub struct SteadyHost {
@@ -73,7 +75,7 @@ impl SteadyHost {
 
     /// Adds a file, in place of an earlier one of that name.
     pub fn add_file(&mut self, name: &str, bytes: &[u8]) -> Result<(), NoMemory>
-        ensures ok { OnOk result (self.new ≡ with_steady_file self.old name.now bytes.now) }
+        ensures ok { OnOk result (self.new ≡ record self.old { files = with_file self.old.files name.now bytes.now }) }
         ensures err { OnErr result (self.new ≡ self.old) }
     {
         let name = String::from_str(self.alloc, name)?;
@@ -118,14 +120,14 @@ impl SteadyHost {
 impl SteadyHost {
     // Notes a call.
     fn begin(&mut self, kind: CallKind, name: &str, limit: u64)
-        ensures noted { self.new ≡ begun_steady self.old (record { kind = kind; name = name.now; limit = limit }) }
+        ensures noted { self.new ≡ record self.old { calls = noted self.old.room self.old.calls (record { kind = kind; name = name.now; limit = limit }) } }
         ensures appended { Appended self.old.calls self.new.calls (record { kind = kind; name = name.now; limit = limit } ∷ []) }
     {
         self.log.note(kind, name, limit);
     }
 }
 
-// The front part of the bytes that fits so much room.
+// The longest prefix of the bytes that fits so much room.
 fn fitting(bytes: &[u8], free: usize) -> &[u8]
     ensures items { result.now ≡ take free bytes.now }
     ensures fits { length result.now ≤ free }
@@ -149,7 +151,7 @@ impl Host for SteadyHost {
         ensures later { 0 ≤ 0 }
         ensures failed { result ≡ Err HostError.Failed → Rose 0 0 }
         ensures never { result ≢ Err HostError.Failed }
-        ensures after { self.new ≡ begun_steady self.old (record { kind = CallKind.Read; name = name.now; limit = limit }) }
+        ensures after { self.new ≡ record self.old { calls = noted self.old.room self.old.calls (record { kind = CallKind.Read; name = name.now; limit = limit }) } }
     {
         self.begin(CallKind::Read, name, limit);
         match contents(self.files.as_slice(), name) {
@@ -165,7 +167,8 @@ impl Host for SteadyHost {
         ensures later { 0 ≤ 0 }
         ensures failed { OnErr result (Rose 0 0) }
         ensures always { IsOk result }
-        ensures after { self.new ≡ record (begun_steady self.old (record { kind = CallKind.Create; name = name.now; limit = 0 })) {
+        ensures after { self.new ≡ record self.old {
+          calls = noted self.old.room self.old.calls (record { kind = CallKind.Create; name = name.now; limit = 0 });
           created = self.new.created;
           used = used_by self.old (length name.now + length bytes.now);
         } }
@@ -192,7 +195,8 @@ impl Host for SteadyHost {
         ensures later { 0 ≤ 0 }
         ensures failed { OnErr result (Rose 0 0) }
         ensures always { IsOk result }
-        ensures after { self.new ≡ record (begun_steady self.old (record { kind = CallKind.Out; name = []; limit = 0 })) {
+        ensures after { self.new ≡ record self.old {
+          calls = noted self.old.room self.old.calls (record { kind = CallKind.Out; name = []; limit = 0 });
           out = wrote self.old.out (self.old.room - self.old.used) bytes.now;
           used = used_by self.old (length bytes.now);
         } }
@@ -211,7 +215,8 @@ impl Host for SteadyHost {
         ensures later { 0 ≤ 0 }
         ensures failed { OnErr result (Rose 0 0) }
         ensures always { IsOk result }
-        ensures after { self.new ≡ record (begun_steady self.old (record { kind = CallKind.Err; name = []; limit = 0 })) {
+        ensures after { self.new ≡ record self.old {
+          calls = noted self.old.room self.old.calls (record { kind = CallKind.Err; name = []; limit = 0 });
           err = wrote self.old.err (self.old.room - self.old.used) bytes.now;
           used = used_by self.old (length bytes.now);
         } }
