@@ -4,7 +4,8 @@ use Rattle.std.specs.Prelude.{if◌then◌else◌}
 use Rattle.std.specs.List.{AllByRecursion}
 use Rattle.poison_mem.specs.declared.event.Event.{Event}
 use Rattle.poison_mem.specs.Bus.{BusMeaning}
-use Rattle.poison_mem.specs.Flips.{FlipMeaning, FlipsKeepWords, IsFaithful, raised_at}
+use Rattle.poison_mem.specs.Cells.{CellsKeepCounts, is_third, raised_at}
+use Rattle.poison_mem.specs.Flips.{FlipMeaning, IsFaithful}
 use Rattle.fault_script.specs.declared.lines.Act.{Act}
 use Rattle.fault_script.specs.declared.lines.Act.TheVariants.{Flip, Scrub}
 use Rattle.fault_script.specs.declared.lines.ScriptLine.{ScriptLine}
@@ -38,22 +39,22 @@ module _ {B L : Type 0} (bus : BusMeaning B) (flips : FlipMeaning B) (logged : L
   pub more_flips : IsFaithful bus flips stands → (ram : List ℕ) (q r : ℕ → ℕ) (b : B) → ((w : ℕ) → q w ≤ r w) → StandsFor bus stands ram q b → StandsFor bus stands ram r b
   more_flips faithful ram q r b up it = record { words = it.words; each = faithful.same b _ _ q r it.each (λ w inside. refl) (λ w inside. up w) }
 
-  act_stands : FlipsKeepWords bus flips → IsFaithful bus flips stands → (n : ℕ) (act : Act) (ram : List ℕ) (q : ℕ → ℕ) (p : Protected B L) → FitsRamAct (length ram) act → (act_done flips logged n act p).beyond ≡ None
+  act_stands : CellsKeepCounts bus.words flips.cells → IsFaithful bus flips stands → (n : ℕ) (act : Act) (ram : List ℕ) (q : ℕ → ℕ) (p : Protected B L) → FitsRamAct (length ram) act → (act_done flips logged n act p).beyond ≡ None
       → StandsFor bus stands ram q p.memory → StandsFor bus stands ram (λ w. q w + cond (is_flip_of w act) 1 0) (act_done flips logged n act p).memory
   act_stands keeps faithful n (Flip u bit) ram q p fits none it =
       let inside : u < bus.words p.memory = let same = it.words in let there = fits.0 in omega arith in
       more_flips faithful ram (raised_at q u) _ _ (λ w. raised_most q u w)
       (record {
-        words = keeps.strike p.memory u bit ∙ it.words;
-        each = faithful.strike_keeps p.memory u bit _ q inside (let high = fits.1 in omega arith) (second_none p.beyond (flips.is_third p.memory u) (n, u) none) it.each;
+        words = keeps.strike_words p.memory u bit ∙ it.words;
+        each = faithful.strike_keeps p.memory u bit _ q inside (let high = fits.1 in omega arith) (second_none p.beyond (is_third (flips.cells.cell p.memory u)) (n, u) none) it.each;
       })
   act_stands keeps faithful n (Scrub u) ram q p fits none it =
       let inside : u < bus.words p.memory = let same = it.words in omega arith in
       more_flips faithful ram q _ _ (λ w. omega arith)
-      (record { words = keeps.scrub p.memory u ∙ it.words; each = faithful.scrub_keeps p.memory u _ q inside it.each })
+      (record { words = keeps.scrub_words p.memory u ∙ it.words; each = faithful.scrub_keeps p.memory u _ q inside it.each })
 
   -- the acts of a step, none of them a third flip
-  pub acts_stand : FlipsKeepWords bus flips → IsFaithful bus flips stands → (n : ℕ) (lines : List ScriptLine) (ram : List ℕ) (q : ℕ → ℕ) (p : Protected B L)
+  pub acts_stand : CellsKeepCounts bus.words flips.cells → IsFaithful bus flips stands → (n : ℕ) (lines : List ScriptLine) (ram : List ℕ) (q : ℕ → ℕ) (p : Protected B L)
       → AllByRecursion (FitsRam (length ram)) lines → (acts_done flips logged n lines p).beyond ≡ None
       → StandsFor bus stands ram q p.memory → StandsFor bus stands ram (λ w. q w + flips_of w lines) (acts_done flips logged n lines p).memory
   acts_stand keeps faithful n [] ram q p fits none it = more_flips faithful ram q _ _ (λ w. omega arith) it

@@ -5,16 +5,17 @@ use Rattle.std.specs.List.{AllByRecursion}
 use Rattle.poison_mem.specs.declared.cell.UseKind.{UseKind}
 use Rattle.poison_mem.specs.declared.event.Event.{Event}
 use Rattle.poison_mem.specs.Bus.{BusMeaning, KeepsWords}
-use Rattle.poison_mem.specs.Flips.{FlipMeaning, FlipsKeepWords, IsFaithful}
+use Rattle.poison_mem.specs.Cells.{CellsKeepCounts}
+use Rattle.poison_mem.specs.Flips.{FlipMeaning, IsFaithful}
 use Rattle.fault_script.specs.declared.lines.ScriptLine.{ScriptLine}
 use Rattle.fault_script.specs.Fits.{FitsRam}
 use Rattle.fault_script.specs.Steps.{at_step}
 use Rattle.rv64_hart.specs.Turn.{Stepped, turn, step_of}
-use Rattle.rv64_hart.specs.Bound.{turn_within}
+use Rattle.rv64_hart.specs.WithinLaws.{turn_within}
 use Rattle.ras_machine.specs.declared.ending.Ending.{Ending}
 use Rattle.ras_machine.specs.declared.ending.Stop.TheVariants as stops
 use Rattle.ras_machine.specs.declared.protected.Protected.{Protected}
-use Rattle.ras_machine.specs.Runs.{Run, ended_or}
+use Rattle.ras_machine.specs.Runs.{RunResult, ended_or}
 use Rattle.ras_machine.specs.Flat.{FlatState, flat_step, flat_run, flat_after}
 use Rattle.ras_machine.specs.declared.state.MachineState.{MachineState}
 use Rattle.ras_machine.specs.Machine.{acts_done, steps_completed, hart_step, machine_move, machine_run}
@@ -98,11 +99,11 @@ module _ {B L : Type 0} (bus : BusMeaning B) (flips : FlipMeaning B) (logged : L
       (inr (consumed_step w use_kind t p n pc early goes at hart console asks twice))
 
   -- A step: short of a third flip the machine stays in step, or ends in one of the two ways.
-  pub move_ways : KeepsWords bus → FlipsKeepWords bus flips → IsFaithful bus flips stands → (s : MachineState B L)
+  pub move_ways : KeepsWords bus → CellsKeepCounts bus.words flips.cells → IsFaithful bus flips stands → (s : MachineState B L)
       → AllByRecursion (FitsRam (length start.ram)) script → s.steps < budget → InStep bus stands input start script s
       → (machine_move bus flips logged input script s).after.protected.beyond ≡ None
       → Ways bus stands input start script budget (machine_move bus flips logged input script s).ending (machine_move bus flips logged input script s).after
-  move_ways keeps fkeeps faithful s fit early it none =
+  move_ways keeps cells faithful s fit early it none =
       subst (λ t. Ways bus stands input start script budget (ending_of t.answer n s.hart.pc) (left_by (ending_of t.answer n s.hart.pc) t p n)) (sym step_is)
       (by_answer faithful t p n s.hart.pc early it.goes_on (ap (λ h. h.pc) it.hart)
       (step_alike bus flips logged stands keeps faithful n f (since input start script n) (turn (length f.ram) f.hart n input) 600 p.memory p.log stand (turn_within (length f.ram) f.hart n input)))
@@ -123,7 +124,7 @@ module _ {B L : Type 0} (bus : BusMeaning B) (flips : FlipMeaning B) (logged : L
       stand =
           more_flips bus flips logged stands faithful f.ram (λ w. since_before input start script n w + flips_of w (at_step n script)) (since input start script n) p.memory
           (λ w. let e = since_adds input start script n w in omega arith)
-          (acts_stand bus flips logged stands fkeeps faithful n (at_step n script) f.ram (since_before input start script n) s.protected fits none it.memory)
+          (acts_stand bus flips logged stands cells faithful n (at_step n script) f.ram (since_before input start script n) s.protected fits none it.memory)
 
       t : Stepped B L
       t = step_of bus logged (turn (length f.ram) f.hart n input) f.hart f.console p.memory p.log
@@ -131,7 +132,7 @@ module _ {B L : Type 0} (bus : BusMeaning B) (flips : FlipMeaning B) (logged : L
       step_is : hart_step bus logged input (record s { protected = p }) ≡ t
       step_is = rw (it.hart, it.console, stand.words) refl
 
-  ended_none : (e : Option Ending) (after : MachineState B L) (more : Run (MachineState B L)) → (more.after.protected.beyond ≡ None → after.protected.beyond ≡ None)
+  ended_none : (e : Option Ending) (after : MachineState B L) (more : RunResult (MachineState B L)) → (more.after.protected.beyond ≡ None → after.protected.beyond ≡ None)
       → (ended_or e after more).after.protected.beyond ≡ None → after.protected.beyond ≡ None
   ended_none None after more rest none = rest none
   ended_none (Some e) after more rest none = none
@@ -154,12 +155,12 @@ module _ {B L : Type 0} (bus : BusMeaning B) (flips : FlipMeaning B) (logged : L
   by_ending left n (Some e) after more ways none = ways
 
   -- The run: short of a third flip it ends in one of the two ways.
-  pub run_ways : KeepsWords bus → FlipsKeepWords bus flips → IsFaithful bus flips stands → (left : ℕ) (s : MachineState B L)
+  pub run_ways : KeepsWords bus → CellsKeepCounts bus.words flips.cells → IsFaithful bus flips stands → (left : ℕ) (s : MachineState B L)
       → AllByRecursion (FitsRam (length start.ram)) script → budget ≡ s.steps + left → InStep bus stands input start script s
       → (machine_run bus flips logged input script left s).after.protected.beyond ≡ None
       → Ways bus stands input start script budget (Some (machine_run bus flips logged input script left s).ending) (machine_run bus flips logged input script left s).after
   unfolding machine_run
-  run_ways keeps fkeeps faithful zero s fit all it none =
+  run_ways keeps cells faithful zero s fit all it none =
       let spent : budget ≡ s.steps = omega arith in
       let run = run_spent input start s.steps it.goes_on in
       let same = ap (λ steps. flat_run input steps 0 start) spent ∙ run in
@@ -168,11 +169,11 @@ module _ {B L : Type 0} (bus : BusMeaning B) (flips : FlipMeaning B) (logged : L
         hart = it.hart ∙ ap (λ run. run.after.hart) (sym same);
         console = it.console ∙ ap (λ run. run.after.console) (sym same);
       })
-  run_ways keeps fkeeps faithful (suc left) s fit all it none =
+  run_ways keeps cells faithful (suc left) s fit all it none =
       let move = machine_move bus flips logged input script s in
       by_ending left s.steps move.ending move.after
-      (λ is there clear. run_ways keeps fkeeps faithful left move.after fit (let e = counted move.ending s.steps is in omega arith) there clear)
-      (move_ways keeps fkeeps faithful s fit (omega arith) it
+      (λ is there clear. run_ways keeps cells faithful left move.after fit (let e = counted move.ending s.steps is in omega arith) there clear)
+      (move_ways keeps cells faithful s fit (omega arith) it
       (ended_none move.ending move.after (machine_run bus flips logged input script left move.after) (run_none left move.after) none))
       none
 

@@ -3,7 +3,7 @@ use Rattle.std.proofs.Common.{ℕ, zero, suc, ◌+◌, ◌≡◌, ◌≤◌, Boo
 use Rattle.std.specs.Prelude.{◌==◌, nat_le, nat_lt, count_by, if◌then◌else◌}
 use Rattle.std.proofs.lemmas.Bool.Decides.{nat_tests}
 use Rattle.std.proofs.lemmas.List.Sums.{sum_by-cons}
-use Rattle.poison_mem.specs.Flips.{raised_at}
+use Rattle.poison_mem.specs.Cells.{raised_at}
 use Rattle.fault_script.specs.declared.lines.ScriptLine.{ScriptLine}
 use Rattle.fault_script.specs.Steps.{at_step}
 use Rattle.ras_machine.specs.Flat.{FlatState, flat_after}

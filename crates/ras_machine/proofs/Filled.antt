@@ -1,5 +1,5 @@
 -- Words that are set one after the other.
-use Rattle.std.proofs.Common.{ℕ, zero, suc, ◌+◌, ◌≡◌, ◌<◌, ◌≤◌, List, [], ◌∷◌, length, refl, ap, arith, add-one, replicate, get_or, slice_set}
+use Rattle.std.proofs.Common.{ℕ, zero, suc, ◌+◌, ◌≡◌, ◌<◌, ◌≤◌, List, [], ◌∷◌, length, refl, sym, ap, arith, add-one, replicate, get_or, slice_set}
 
 -- the first n of the words, zeros in place of the others
 pub filled : List ℕ → ℕ → List ℕ
@@ -26,6 +26,16 @@ set_next (word ∷ words) (suc n) d inside = ap (λ rest. word ∷ rest) (set_ne
 
 pub one_more_filled : (words : List ℕ) (n d : ℕ) → n < length words → slice_set (filled words n) n (get_or words n d) ≡ filled words (n + 1)
 one_more_filled words n d inside = rw (add-one n) (set_next words n d inside)
+
+-- a zero is there already
+set_zero : (words : List ℕ) (n d : ℕ) → n < length words → get_or words n d ≡ 0 → filled words n ≡ filled words (suc n)
+unfolding filled
+set_zero [] n d inside is_zero = refl
+set_zero (word ∷ words) zero d inside is_zero = ap (λ w. w ∷ filled words 0) (sym is_zero)
+set_zero (word ∷ words) (suc n) d inside is_zero = ap (λ rest. word ∷ rest) (set_zero words n d (omega arith) is_zero)
+
+pub zero_filled : (words : List ℕ) (n d : ℕ) → n < length words → get_or words n d ≡ 0 → filled words n ≡ filled words (n + 1)
+zero_filled words n d inside is_zero = rw (add-one n) (set_zero words n d inside is_zero)
 
 pub all_filled : (words : List ℕ) (n : ℕ) → length words ≤ n → filled words n ≡ words
 unfolding filled

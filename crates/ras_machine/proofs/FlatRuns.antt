@@ -1,15 +1,18 @@
 -- The flat machine's run by its states.
-use Rattle.std.proofs.Common.{ℕ, zero, suc, ◌+◌, ◌-◌, ◌≡◌, ◌≤◌, ◌<◌, Bool, true, false, List, [], ◌∷◌, Option, Some, None, length, refl, ap, ◌∙◌, subst, arith, add-one, inl, inr, slice_index, slice_set}
-use Rattle.std.specs.Prelude.{if◌then◌else◌}
+use Rattle.std.proofs.Common.{ℕ, zero, suc, ◌+◌, ◌-◌, ◌≡◌, ◌≤◌, ◌<◌, Bool, true, false, List, [], ◌∷◌, ◌++◌, Option, Some, None, length, refl, ap, ◌∙◌, subst, arith, add-one, inl, inr, slice_index, slice_set}
+use Rattle.std.specs.Prelude.{if◌then◌else◌, IfSome}
 use Rattle.std.proofs.lemmas.Bool.{cases_lt}
 use Rattle.std.proofs.Math.ListN.{length-set}
 use Rattle.poison_mem.specs.Merge.{merged_value}
 use Rattle.rv64_hart.specs.Outcome.{Outcome, End, Store, has_room}
 use Rattle.rv64_hart.specs.Turn.{turn}
+use Rattle.sbi_calls.specs.declared.stop.GuestStop.{GuestStop}
 use Rattle.ras_machine.specs.declared.ending.Ending.{Ending}
+use Rattle.ras_machine.specs.declared.ending.Stop.{Stop}
+use Rattle.ras_machine.specs.Ends.{guest_ends}
 use Rattle.ras_machine.specs.declared.ending.Stop.TheVariants as stops
 use Rattle.ras_machine.specs.Runs.{ended_or}
-use Rattle.ras_machine.specs.Flat.{FlatState, FlatMove, FlatRun, answered, ram_after, flat_outcome, flat_step, flat_run, flat_after}
+use Rattle.ras_machine.specs.Flat.{FlatState, FlatMove, FlatRun, flat_answered, ram_after, flat_outcome, flat_step, flat_run, flat_after}
 use Rattle.ras_machine.specs.TwoRuns.{GoesOn}
 use Rattle.ras_machine.proofs.Steps.{run_step, run_over}
 
@@ -33,7 +36,7 @@ unfolding flat_after
 after-length input start zero = refl
 after-length input start (suc n) =
     let f = flat_after input start n in
-    outcome-length n f (answered f.ram (turn (length f.ram) f.hart n input)) ∙ after-length input start n
+    outcome-length n f (flat_answered f.ram (turn (length f.ram) f.hart n input)) ∙ after-length input start n
 
 -- the next state
 pub after_next : (input : List ℕ) (start : FlatState) (n : ℕ) → flat_after input start (n + 1) ≡ (flat_step input n (flat_after input start n)).after
@@ -83,3 +86,33 @@ run_ends input start budget n ending goes low is =
 pub run_spent : (input : List ℕ) (start : FlatState) (budget : ℕ) → GoesOn input start budget
     → flat_run input budget 0 start ≡ record { after = flat_after input start budget; ending = record { stop = stops.Budget; steps = budget } }
 run_spent input start budget goes = run_from input start budget budget goes (omega arith) ∙ run_over input (budget - budget) budget _ (omega arith)
+
+-- What holds of each stop but one at poison holds of the stop of a run.
+module _ (P : Stop → Type 0) (shutdown : (reason : ℕ) → P (stops.Shutdown reason)) (reboot : (reboot_kind : ℕ) → P (stops.Reboot reboot_kind)) (spent : P stops.Budget) (full : P stops.ConsoleFull) where
+  guest_stops : (stop : Option GuestStop) (n : ℕ) → IfSome (guest_ends stop n) (λ (e : Ending). P e.stop)
+  guest_stops None n = tt
+  guest_stops (Some (GuestStop.Shutdown reason)) n = shutdown reason
+  guest_stops (Some (GuestStop.Reboot reboot_kind)) n = reboot reboot_kind
+  guest_stops (Some GuestStop.ConsoleFull) n = full
+
+  outcome_stops : (n : ℕ) (s : FlatState) (o : Outcome) → IfSome (flat_outcome n s o).ending (λ (e : Ending). P e.stop)
+  unfolding flat_outcome
+  outcome_stops n s (End after stores bytes stop) = by_room (has_room s.console bytes)
+    where
+      by_room : (room : Bool) → let move : FlatMove = if room
+          then record { after = record { hart = after; ram = ram_after s.ram stores; console = s.console ++ bytes }; ending = guest_ends stop n }
+          else record { after = s; ending = Some (record { stop = stops.ConsoleFull; steps = n }) } in
+          IfSome move.ending (λ (e : Ending). P e.stop)
+      by_room true = guest_stops stop n
+      by_room false = full
+
+  ended_stops : (e : Option Ending) (s : FlatState) (more : FlatRun) → IfSome e (λ (x : Ending). P x.stop) → P more.ending.stop → P (ended_or e s more).ending.stop
+  ended_stops None s more h g = g
+  ended_stops (Some e) s more h g = h
+
+  pub flat_stops : (input : List ℕ) (left n : ℕ) (s : FlatState) → P (flat_run input left n s).ending.stop
+  unfolding flat_run
+  flat_stops input zero n s = spent
+  flat_stops input (suc left) n s =
+      let move = flat_step input n s in
+      ended_stops move.ending move.after (flat_run input left (n + 1) move.after) (outcome_stops n s _) (flat_stops input left (n + 1) move.after)

@@ -6,6 +6,7 @@ pub mod Turns
 pub mod FlatRuns
 pub mod Both
 pub mod Counts
-pub mod Places
+pub mod FirstLines
 pub mod Runs
 pub mod Machines
+pub mod CountDownCalls

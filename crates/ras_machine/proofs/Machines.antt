@@ -1,10 +1,11 @@
 -- The two-run theorem of the machine over the stack.
-use Rattle.std.proofs.Common.{ℕ, ◌+◌, ◌-◌, ◌≡◌, ◌≤◌, ◌∙◌, Bool, true, false, List, Option, Some, None, length, sym, subst, refl, arith, slice_index}
+use Rattle.std.proofs.Common.{ℕ, zero, suc, ◌+◌, ◌-◌, ◌≡◌, ◌≤◌, ◌∙◌, Bool, true, false, List, Option, Some, None, length, sym, ap, subst, refl, arith, slice_index}
 use Rattle.std.specs.Prelude.{◌==◌, if◌then◌else◌}
 use Rattle.std.specs.List.{AllByRecursion}
 use Rattle.std.proofs.lemmas.Bool.Decides.{nat_tests}
 use Rattle.mem_stack.specs.Stack.{stack_meaning, stack_flips, loaded_stack}
-use Rattle.mem_stack.specs.StackStands.{StackStands, stack_keeps_words, stack_flips_keep_words, stack_faithful, stack_counts_flips, loaded_words, loaded_counts}
+use Rattle.mem_stack.specs.StackStands.{StackStands}
+use Rattle.mem_stack.specs.StackLaws.{stack_keeps_words, stack_cells_keep_counts, stack_words_keep_counts, stack_faithful, loaded_words, loaded_counts}
 use Rattle.elf_load.specs.Program.{Program}
 use Rattle.fault_script.specs.declared.lines.ScriptLine.{ScriptLine}
 use Rattle.fault_script.specs.Fits.{FitsRam, IsScriptFor}
@@ -12,9 +13,9 @@ use Rattle.fault_script.specs.Steps.{at_step}
 use Rattle.ras_machine.specs.declared.ending.Ending.{Ending}
 use Rattle.ras_machine.specs.declared.ending.Stop.TheVariants as stops
 use Rattle.ras_machine.specs.declared.settings.Settings.{Settings}
-use Rattle.ras_machine.specs.Runs.{Move}
+use Rattle.ras_machine.specs.Runs.{Move, RunResult, ended_or}
 use Rattle.ras_machine.specs.Flat.{FlatState, flat_start, flat_after, flat_run}
-use Rattle.ras_machine.specs.Machine.{StackState, StackMachine, event_counted, machine_made, stack_move, machine_run, machine_stepped, machine_left}
+use Rattle.ras_machine.specs.Machine.{StackState, StackMachine, event_counted, machine_made, moved, hart_step, acts_done, stack_move, stack_run, machine_run, machine_stepped, machine_left}
 use Rattle.ras_machine.specs.Since.{since_before, FlipsEachOnce}
 use Rattle.ras_machine.specs.TwoRuns.{InStep, FirstWay, EndsEitherWay, Ways, KeepsToFlat}
 use Rattle.ras_machine.proofs.Acts.{acts_none}
@@ -48,7 +49,7 @@ ends_either_way : (input : List ℕ) (start : FlatState) (script : List ScriptLi
     → (machine_run stack_meaning stack_flips event_counted input script left s).after.protected.beyond ≡ None
     → EndsEitherWay input start script budget (machine_run stack_meaning stack_flips event_counted input script left s).ending (machine_run stack_meaning stack_flips event_counted input script left s).after
 ends_either_way input start script budget left s fit all it none =
-    run_ways stack_meaning stack_flips event_counted StackStands input start script budget stack_keeps_words stack_flips_keep_words stack_faithful left s
+    run_ways stack_meaning stack_flips event_counted StackStands input start script budget stack_keeps_words stack_cells_keep_counts stack_faithful left s
     (fits_start input start script s fit it) all it none
 
 spent_ways : (input : List ℕ) (start : FlatState) (script : List ScriptLine) (budget : ℕ) (s : StackState) → IsScriptFor (stack_meaning.words s.protected.memory) script → budget ≡ s.steps
@@ -83,9 +84,9 @@ stepped_keeps None image input script m is fit low it = by_test (m.state.steps =
       counts = λ goes. cc;
     }
     by_test false test = record {
-      ways = λ none. move_ways stack_meaning stack_flips event_counted StackStands input start script m.settings.budget stack_keeps_words stack_flips_keep_words stack_faithful m.state
+      ways = λ none. move_ways stack_meaning stack_flips event_counted StackStands input start script m.settings.budget stack_keeps_words stack_cells_keep_counts stack_faithful m.state
           (fits_start input start script m.state fit (before none)) (grind (arith, nat_tests)) (before none) none;
-      counts = λ goes. move_counts stack_meaning stack_flips event_counted stack_counts_flips input script m.state (it.counts is) goes;
+      counts = λ goes. move_counts stack_meaning stack_flips event_counted stack_cells_keep_counts stack_words_keep_counts input script m.state (it.counts is) goes;
     }
 
 -- a run keeps it so
@@ -112,7 +113,7 @@ pub left_clear : (ended : Option Ending) (image : Program) (input : List ℕ) (s
     → KeepsToFlat image input script m → FlipsEachOnce script → m.state.protected.beyond ≡ None → (machine_left ended input script m).state.protected.beyond ≡ None
 left_clear (Some ending) image input script m is it once none = none
 left_clear None image input script m is it once none =
-    run_clear stack_meaning stack_flips event_counted stack_counts_flips input script once (m.settings.budget - m.state.steps) m.state (it.counts is) none
+    run_clear stack_meaning stack_flips event_counted stack_cells_keep_counts stack_words_keep_counts input script once (m.settings.budget - m.state.steps) m.state (it.counts is) none
 
 left_settings : (ended : Option Ending) (input : List ℕ) (script : List ScriptLine) (m : StackMachine) → (machine_left ended input script m).settings ≡ m.settings
 left_settings (Some ending) input script m = refl
@@ -133,3 +134,19 @@ pub left_first : (image : Program) (input : List ℕ) (script : List ScriptLine)
 left_first image input script m ending fit low it once none is =
     only_first stack_meaning stack_flips event_counted StackStands input (flat_start image) script m.settings.budget once ending (machine_left m.ended input script m).state
     (left_either image input script m ending fit low it is (left_clear m.ended image input script m refl it once none))
+
+-- a step sees only the lines of its step
+same_lines_move : (input : List ℕ) (lines read : List ScriptLine) (s : StackState) → at_step s.steps lines ≡ at_step s.steps read → stack_move input lines s ≡ stack_move input read s
+same_lines_move input lines read s h =
+    ap (λ (now : List ScriptLine). let struck = record s { protected = acts_done stack_flips event_counted s.steps now s.protected } in
+    moved struck (hart_step stack_meaning event_counted input struck)) h
+
+-- and so a run sees of its lines only those of each step
+pub same_lines_run : (input : List ℕ) (lines read : List ScriptLine) → ((step : ℕ) → at_step step lines ≡ at_step step read) → (left : ℕ) (s : StackState)
+    → stack_run input lines left s ≡ stack_run input read left s
+unfolding machine_run
+same_lines_run input lines read h zero s = refl
+same_lines_run input lines read h (suc left) s =
+    let move = stack_move input lines s in
+    ap (λ (r : RunResult StackState). ended_or move.ending move.after r) (same_lines_run input lines read h left move.after)
+    ∙ ap (λ (m : Move StackState). ended_or m.ending m.after (stack_run input read left m.after)) (same_lines_move input lines read s (h s.steps))

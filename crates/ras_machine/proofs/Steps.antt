@@ -5,21 +5,20 @@ use Rattle.poison_mem.specs.Flat.{flat_meaning}
 use Rattle.poison_mem.specs.Merge.{merged_value}
 use Rattle.poison_mem.specs.declared.cell.UseKind.{UseKind}
 use Rattle.rv64_hart.specs.Outcome.{Outcome, End, Store, has_room}
-use Rattle.rv64_hart.specs.Turn.{Stepped, turn, stored, finished, step_of, end_of}
-use Rattle.rv64_hart.specs.Laws.{ended_by}
+use Rattle.rv64_hart.specs.Turn.{Stepped, turn, stored, finished, ended_by, step_of, end_of}
 use Rattle.rv64_hart.specs.State.{ArchitecturalState}
 use Rattle.sbi_calls.specs.declared.stop.GuestStop.{GuestStop}
 use Rattle.rv64_hart.specs.declared.ends.TurnEnd.{TurnEnd}
 use Rattle.rv64_hart.specs.declared.ends.TurnEnd.TheVariants.{Went, Stop, Poisoned}
 use Rattle.ras_machine.specs.declared.ending.Ending.{Ending}
 use Rattle.ras_machine.specs.declared.ending.Stop.TheVariants as stops
-use Rattle.ras_machine.specs.Flat.{FlatState, FlatMove, answered, ram_after, flat_outcome, flat_step, flat_run}
+use Rattle.ras_machine.specs.Flat.{FlatState, FlatMove, flat_answered, ram_after, flat_outcome, flat_step, flat_run}
 use Rattle.ras_machine.specs.Ends.{guest_ending, guest_ends}
 use Rattle.ras_machine.specs.Runs.{ended_or}
 
 -- over plain words a computation meets no poison, and leaves the words and the log as they were
 play_flat : {X L : Type 0} (logged : L → Event → L) (m : Asking X) (ram : List ℕ) (log : L)
-    → play flat_meaning logged m ram log ≡ Ended (answered ram m) ram log
+    → play flat_meaning logged m ram log ≡ Ended (flat_answered ram m) ram log
 play_flat logged (Answer x) ram log = refl
 play_flat logged (Ask w use_kind go_on) ram log = play_flat logged (go_on (slice_index ram w)) ram log
 
@@ -89,7 +88,7 @@ outcome_unpoisoned logged h console (End after stores bytes stop) ram log w use_
 pub never_poisoned : {L : Type 0} (logged : L → Event → L) (m : Asking Outcome) (h : ArchitecturalState) (console ram : List ℕ) (log : L) (t : Stepped (List ℕ) L) (w : ℕ) (use_kind : UseKind)
     → step_of flat_meaning logged m h console ram log ≡ t → t.answer ≡ Poisoned w use_kind → ⊥
 never_poisoned logged m h console ram log t w use_kind e is =
-    outcome_unpoisoned logged h console (answered ram m) ram log w use_kind
+    outcome_unpoisoned logged h console (flat_answered ram m) ram log w use_kind
     (ap (λ P. (finished flat_meaning logged h console P).answer) (sym (play_flat logged m ram log)) ∙ ap (λ t. t.answer) e ∙ is)
 
 -- the run by its first step

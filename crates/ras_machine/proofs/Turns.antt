@@ -13,15 +13,14 @@ use Rattle.poison_mem.specs.Asking.{Asking, Answer, Ask, AsksWithin, Played, End
 use Rattle.poison_mem.specs.Bus.{BusMeaning, KeepsWords, logged_all}
 use Rattle.poison_mem.specs.Flips.{FlipMeaning, IsFaithful, Shows, stored_at, renewed_at}
 use Rattle.poison_mem.specs.Merge.{merged_value}
-use Rattle.poison_mem.specs.Showing.{stored_at-same, stored_at-other}
+use Rattle.poison_mem.specs.FlipsLaws.{stored_at-same, stored_at-other}
 use Rattle.rv64_hart.specs.Outcome.{Outcome, End, Store, has_room}
-use Rattle.rv64_hart.specs.Turn.{Stepped, stored, finished, step_of, end_of}
-use Rattle.rv64_hart.specs.Laws.{ended_by}
+use Rattle.rv64_hart.specs.Turn.{Stepped, stored, finished, ended_by, step_of, end_of}
 use Rattle.rv64_hart.specs.Within.{StoresWithin, OutcomeWithin}
 use Rattle.sbi_calls.specs.declared.stop.GuestStop.{GuestStop}
 use Rattle.rv64_hart.specs.declared.ends.TurnEnd.TheVariants as ends
 use Rattle.ras_machine.specs.declared.ending.Stop.TheVariants as stops
-use Rattle.ras_machine.specs.Flat.{FlatState, FlatMove, answered, ram_after, flat_outcome}
+use Rattle.ras_machine.specs.Flat.{FlatState, FlatMove, flat_answered, ram_after, flat_outcome}
 use Rattle.ras_machine.specs.Ends.{guest_ends, ending_of}
 use Rattle.ras_machine.specs.Since.{stores_of, stores_whole}
 use Rattle.ras_machine.specs.TwoRuns.{AsksFor, StandsFor}
@@ -51,7 +50,7 @@ stored_ram ram w value mask k inside = by_word (cases_eq k w)
 module _ {B L : Type 0} (bus : BusMeaning B) (flips : FlipMeaning B) (logged : L → Event → L) (stands : B → (ℕ → ℕ) → (ℕ → ℕ) → Type 0) where
   -- Two plays of one computation come to the same answer, or the first meets poison at a word that the second asks for.
   data Alike (ram : List ℕ) (q : ℕ → ℕ) (m : Asking Outcome) (P : Played Outcome B L) : Type 0 where
-    both : (b : B) (log : L) → P ≡ Ended (answered ram m) b log → StandsFor bus stands ram q b → OutcomeWithin (length ram) (answered ram m) → Alike ram q m P
+    both : (b : B) (log : L) → P ≡ Ended (flat_answered ram m) b log → StandsFor bus stands ram q b → OutcomeWithin (length ram) (flat_answered ram m) → Alike ram q m P
     consumed : (w : ℕ) (use_kind : UseKind) (b : B) (log : L) → P ≡ Poisoned w use_kind b log → AsksFor ram m w use_kind → 2 ≤ q w → Alike ram q m P
 
   ask_alike : (ram : List ℕ) (q : ℕ → ℕ) (w : ℕ) (use_kind : UseKind) (go_on : ℕ → Asking Outcome) (P : Played Outcome B L)
@@ -135,14 +134,14 @@ module _ {B L : Type 0} (bus : BusMeaning B) (flips : FlipMeaning B) (logged : L
   -- a step over both
   pub step_alike : KeepsWords bus → IsFaithful bus flips stands → (n : ℕ) (s : FlatState) (q : ℕ → ℕ) (m : Asking Outcome) (most : ℕ) (b : B) (log : L)
       → StandsFor bus stands s.ram q b → AsksWithin (length s.ram) most (OutcomeWithin (length s.ram)) m
-      → StepsAlike n s q m (stores_of s.console (answered s.ram m)) (step_of bus logged m s.hart s.console b log) (flat_outcome n s (answered s.ram m))
+      → StepsAlike n s q m (stores_of s.console (flat_answered s.ram m)) (step_of bus logged m s.hart s.console b log) (flat_outcome n s (flat_answered s.ram m))
   unfolding finished
   step_alike keeps faithful n s q m most b log it within = from (play bus logged m b log) (turn_alike keeps faithful m most s.ram q b log it within)
     where
-      from : (P : Played Outcome B L) → Alike s.ram q m P → StepsAlike n s q m (stores_of s.console (answered s.ram m)) (finished bus logged s.hart s.console P) (flat_outcome n s (answered s.ram m))
+      from : (P : Played Outcome B L) → Alike s.ram q m P → StepsAlike n s q m (stores_of s.console (flat_answered s.ram m)) (finished bus logged s.hart s.console P) (flat_outcome n s (flat_answered s.ram m))
       from P (both b' log' p it' within') =
-          subst (λ P. StepsAlike n s q m (stores_of s.console (answered s.ram m)) (finished bus logged s.hart s.console P) (flat_outcome n s (answered s.ram m))) (sym p)
-          (finish_alike keeps faithful n s q m (answered s.ram m) b' log' it' within')
+          subst (λ P. StepsAlike n s q m (stores_of s.console (flat_answered s.ram m)) (finished bus logged s.hart s.console P) (flat_outcome n s (flat_answered s.ram m))) (sym p)
+          (finish_alike keeps faithful n s q m (flat_answered s.ram m) b' log' it' within')
       from P (consumed w use_kind b' log' p asks twice) =
-          subst (λ P. StepsAlike n s q m (stores_of s.console (answered s.ram m)) (finished bus logged s.hart s.console P) (flat_outcome n s (answered s.ram m))) (sym p)
+          subst (λ P. StepsAlike n s q m (stores_of s.console (flat_answered s.ram m)) (finished bus logged s.hart s.console P) (flat_outcome n s (flat_answered s.ram m))) (sym p)
           (consumes w use_kind refl refl refl asks twice)

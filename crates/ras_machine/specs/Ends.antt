@@ -12,6 +12,7 @@ guest_ending (GuestStop.Shutdown reason) n = record { stop = stops.Shutdown reas
 guest_ending (GuestStop.Reboot kind) n = record { stop = stops.Reboot kind; steps = n + 1 }
 guest_ending GuestStop.ConsoleFull n = record { stop = stops.ConsoleFull; steps = n }
 
+-- the ending that step n brings, where the program stops in it
 abbrev pub guest_ends : Option GuestStop → ℕ → Option Ending
 guest_ends None n = None
 guest_ends (Some stop) n = Some (guest_ending stop n)

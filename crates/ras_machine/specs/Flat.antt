@@ -9,7 +9,7 @@ use Rattle.rv64_hart.specs.Turn.{turn}
 use Rattle.ras_machine.specs.declared.ending.Stop.TheVariants as stops
 use Rattle.ras_machine.specs.declared.ending.Ending.{Ending}
 use Rattle.ras_machine.specs.Ends.{guest_ends}
-use Rattle.ras_machine.specs.Runs.{Move, Run, ended_or}
+use Rattle.ras_machine.specs.Runs.{Move, RunResult, ended_or}
 
 -- what the flat machine keeps between two steps
 pub record FlatState : Type 0 where
@@ -22,15 +22,16 @@ abbrev pub flat_start : Program → FlatState
 flat_start image = record { hart = reset 0 image.entry; ram = image.words; console = [] }
 
 -- what a computation answers where the RAM answers its asks
-abbrev pub answered : {X : Type 0} → List ℕ → Asking X → X
-answered ram (Answer x) = x
-answered ram (Ask w use_kind go_on) = answered ram (go_on (slice_index ram w))
+abbrev pub flat_answered : {X : Type 0} → List ℕ → Asking X → X
+flat_answered ram (Answer x) = x
+flat_answered ram (Ask w use_kind go_on) = flat_answered ram (go_on (slice_index ram w))
 
 -- the RAM after stores, in order
 abbrev pub ram_after : List ℕ → List Store → List ℕ
 ram_after ram [] = ram
 ram_after ram (s ∷ stores) = ram_after (slice_set ram s.w (merged_value (slice_index ram s.w) s.value s.mask)) stores
 
+-- what a step of the flat machine leaves
 abbrev pub FlatMove : Type 0
 FlatMove = Move FlatState
 
@@ -44,10 +45,11 @@ flat_outcome n s (End after stores bytes stop) =
 
 -- step n with this input: the RAM answers each ask of the turn
 abbrev pub flat_step : List ℕ → ℕ → FlatState → FlatMove
-flat_step input n s = flat_outcome n s (answered s.ram (turn (length s.ram) s.hart n input))
+flat_step input n s = flat_outcome n s (flat_answered s.ram (turn (length s.ram) s.hart n input))
 
+-- what a run of the flat machine leaves
 abbrev pub FlatRun : Type 0
-FlatRun = Run FlatState
+FlatRun = RunResult FlatState
 
 -- The run from step n on, with so many steps left of the budget.
 unfoldable pub flat_run : List ℕ → ℕ → ℕ → FlatState → FlatRun

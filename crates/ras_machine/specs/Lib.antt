@@ -2,7 +2,8 @@ pub mod Settings
 pub mod Ends
 pub mod Runs
 pub mod Flat
-pub mod Place
+pub mod FirstLine
 pub mod Machine
 pub mod Since
 pub mod TwoRuns
+pub mod CountDowns

@@ -2,6 +2,7 @@
 use Rattle.std.specs.Prelude.{ℕ, zero, suc, ◌+◌, ◌-◌, ◌^◌, ◌==◌, List, [], ◌∷◌, min, Option, Some, None, if◌then◌else◌}
 use Rattle.poison_mem.specs.declared.event.Event.{Event}
 use Rattle.poison_mem.specs.Bus.{BusMeaning, logged_all}
+use Rattle.poison_mem.specs.Cells.{is_third}
 use Rattle.poison_mem.specs.Flips.{FlipMeaning}
 use Rattle.elf_load.specs.Program.{Program}
 use Rattle.mem_stack.specs.Stack.{StackLines, stack_meaning, stack_flips, loaded_stack}
@@ -16,7 +17,7 @@ use Rattle.ras_machine.specs.declared.ending.Ending.{Ending}
 use Rattle.ras_machine.specs.declared.protected.Protected.{Protected}
 use Rattle.ras_machine.specs.declared.state.MachineState.{MachineState}
 use Rattle.ras_machine.specs.declared.settings.Settings.{Settings}
-use Rattle.ras_machine.specs.Runs.{Move, Run, ended_or}
+use Rattle.ras_machine.specs.Runs.{Move, RunResult, ended_or}
 use Rattle.ras_machine.specs.Ends.{ending_of}
 
 -- what was found first
@@ -29,12 +30,12 @@ or_else None other = other
 abbrev pub act_done : {B L : Type 0} → FlipMeaning B → (L → Event → L) → ℕ → Act → Protected B L → Protected B L
 act_done flips logged n (Flip w bit) p =
     record {
-      memory = flips.strike p.memory w bit;
+      memory = flips.cells.strike p.memory w bit;
       log = p.log;
-      beyond = or_else p.beyond (if flips.is_third p.memory w then Some (n, w) else None);
+      beyond = or_else p.beyond (if is_third (flips.cells.cell p.memory w) then Some (n, w) else None);
     }
 act_done flips logged n (Scrub w) p =
-    let scrubbed = flips.scrub p.memory w in
+    let scrubbed = flips.cells.scrub p.memory w in
     record { memory = scrubbed.after; log = logged_all logged p.log scrubbed.events; beyond = p.beyond }
 
 -- the acts of lines, in their order
@@ -73,7 +74,7 @@ machine_move bus flips logged input script s =
     moved struck (hart_step bus logged input struck)
 
 -- the run, with so many steps left of the budget
-unfoldable pub machine_run : {B L : Type 0} → BusMeaning B → FlipMeaning B → (L → Event → L) → List ℕ → List ScriptLine → ℕ → MachineState B L → Run (MachineState B L)
+unfoldable pub machine_run : {B L : Type 0} → BusMeaning B → FlipMeaning B → (L → Event → L) → List ℕ → List ScriptLine → ℕ → MachineState B L → RunResult (MachineState B L)
 machine_run bus flips logged input script zero s = record { after = s; ending = record { stop = stops.Budget; steps = s.steps } }
 machine_run bus flips logged input script (suc left) s =
     let move = machine_move bus flips logged input script s in
@@ -111,7 +112,8 @@ machine_made image settings =
 abbrev pub stack_move : List ℕ → List ScriptLine → StackState → Move StackState
 stack_move input script s = machine_move stack_meaning stack_flips event_counted input script s
 
-abbrev pub stack_run : List ℕ → List ScriptLine → ℕ → StackState → Run StackState
+-- and a run over the stack
+abbrev pub stack_run : List ℕ → List ScriptLine → ℕ → StackState → RunResult StackState
 stack_run input script left s = machine_run stack_meaning stack_flips event_counted input script left s
 
 -- a machine after a move

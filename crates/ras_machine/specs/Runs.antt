@@ -8,11 +8,11 @@ pub record Move (S : Type 0) : Type 0 where
   pub ending : Option Ending
 
 -- how a run ends, and the state that it leaves
-pub record Run (S : Type 0) : Type 0 where
+pub record RunResult (S : Type 0) : Type 0 where
   pub after : S
   pub ending : Ending
 
 -- a run that ends here, or goes on
-abbrev pub ended_or : {S : Type 0} → Option Ending → S → Run S → Run S
+abbrev pub ended_or : {S : Type 0} → Option Ending → S → RunResult S → RunResult S
 ended_or None s more = more
 ended_or (Some ending) s more = record { after = s; ending = ending }

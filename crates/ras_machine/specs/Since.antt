@@ -6,7 +6,7 @@ use Rattle.fault_script.specs.declared.lines.Act.TheVariants.{Flip, Scrub}
 use Rattle.fault_script.specs.declared.lines.ScriptLine.{ScriptLine}
 use Rattle.rv64_hart.specs.Outcome.{Outcome, End, Store, has_room}
 use Rattle.rv64_hart.specs.Turn.{turn}
-use Rattle.ras_machine.specs.Flat.{FlatState, answered, flat_after}
+use Rattle.ras_machine.specs.Flat.{FlatState, flat_answered, flat_after}
 
 -- the stores that a step of the flat machine makes: none where the console has no room
 abbrev pub stores_of : List ℕ → Outcome → List Store
@@ -14,7 +14,7 @@ stores_of console (End after stores bytes stop) = if has_room console bytes then
 
 -- the stores of step n from this state of the flat machine
 abbrev pub stores_in : List ℕ → ℕ → FlatState → List Store
-stores_in input n s = stores_of s.console (answered s.ram (turn (length s.ram) s.hart n input))
+stores_in input n s = stores_of s.console (flat_answered s.ram (turn (length s.ram) s.hart n input))
 
 -- one of the stores is of all eight bytes of word w
 abbrev pub stores_whole : ℕ → List Store → Bool

@@ -69,7 +69,7 @@ Ways bus stands input start script budget (Some ending) s = EndsEitherWay input 
 
 -- no word counts more flips than lines of the script flipped it in the steps that were made
 pub record CountsToScript {B L : Type 0} (flips : FlipMeaning B) (script : List ScriptLine) (s : MachineState B L) : Type 0 where
-  pub each : (w : ℕ) → (flips.cell s.protected.memory w).count ≤ flips_between script w 0 s.steps
+  pub each : (w : ℕ) → (flips.cells.cell s.protected.memory w).count ≤ flips_between script w 0 s.steps
 
 -- Two runs: unless a word took a third flip, the machine is in step with the flat machine of this image, or it ended
 -- in one of the two ways. Until it ends no word counts more flips than the script made.

@@ -1,10 +1,9 @@
 //! How a run ends.
 
-ghost use Rattle.std.specs.Prelude.{◌≡◌, ◌+◌, ◌<◌, ◌≤◌, ◌^◌, IfSome};
-ghost use Rattle.ras_machine.specs.Ends.{guest_ending, ending_of};
+ghost use Rattle.std.specs.Prelude.{◌≡◌, ◌+◌, ◌<◌, ◌≤◌, ◌^◌};
+ghost use Rattle.ras_machine.specs.Ends.{guest_ending};
 
 use poison_mem::UseKind;
-use rv64_hart::TurnEnd;
 use sbi_calls::GuestStop;
 
 /// Why a run stops.
@@ -50,21 +49,5 @@ pub(crate) fn stopped(stop: GuestStop, n: u64) -> Ending
             stop: Stop::ConsoleFull,
             steps: n,
         },
-    }
-}
-
-/// The ending that a hart's step `n` brings, where it brings one, with the pc before it.
-pub(crate) fn ending_of(answer: TurnEnd, n: u64, pc: u64) -> Option<Ending>
-    requires { n + 1 < 2 ^ 64 }
-    ensures ending { result ≡ ending_of answer n pc }
-    ensures steps { IfSome result (λ ending. ending.steps ≤ n + 1) }
-{
-    match answer {
-        TurnEnd::Went => None,
-        TurnEnd::Stop(stop) => Some(stopped(stop, n)),
-        TurnEnd::Poisoned { w, use_kind } => Some(Ending {
-            stop: Stop::Consumed { w, use_kind, pc },
-            steps: n,
-        }),
     }
 }

@@ -3,6 +3,7 @@
 //! Only `Machine::make` and `Flat::make` take memory.
 #![tactic(auto)]
 
+mod count_downs;
 mod ending;
 mod events;
 mod flat;
@@ -12,12 +13,8 @@ mod protected;
 mod settings;
 mod state;
 
+pub use count_downs::count_downs_are_calls;
 pub use ending::{Ending, Stop};
 pub use flat::Flat;
 pub use machine::Machine;
 pub use settings::Settings;
-
-#[cfg(test)]
-mod drawn_tests;
-#[cfg(test)]
-mod tests;

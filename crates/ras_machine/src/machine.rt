@@ -7,7 +7,7 @@ ghost use Rattle.fault_script.specs.declared.lines.ScriptLine.{ScriptLine};
 use crate::ending::{Ending, Stop};
 use crate::events::EventCount;
 use crate::loading::stack_of;
-use crate::protected::{Protected, place_of};
+use crate::protected::{Protected, first_line_of};
 use crate::settings::Settings;
 use crate::state::MachineState;
 use elf_load::Image;
@@ -111,15 +111,15 @@ impl Machine {
         if let Some(ending) = self.ended {
             return Some(ending);
         }
-        self.ended = if self.state.steps == self.settings.budget {
-            Some(Ending {
+        if self.state.steps == self.settings.budget {
+            self.ended = Some(Ending {
                 stop: Stop::Budget,
                 steps: self.settings.budget,
-            })
+            });
         } else {
-            let mut at = place_of(lines, self.state.steps);
-            self.state.step(input, lines, &mut at)
-        };
+            let mut at = first_line_of(lines, self.state.steps);
+            self.state.step(input, lines, &mut at, &mut self.ended);
+        }
         self.ended
     }
 
@@ -190,7 +190,7 @@ impl Machine {
     /// Word `w` of RAM as the memory keeps it.
     pub fn cell_state(&self, w: u32) -> CellState
         requires { w < ram_words self.now.settings }
-        ensures { result ≡ stack_flips.cell self.now.state.protected.memory w }
+        ensures { result ≡ stack_flips.cells.cell self.now.state.protected.memory w }
     {
         self.state.protected.memory.cell_state(w)
     }

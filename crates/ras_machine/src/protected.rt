@@ -2,9 +2,9 @@
 
 ghost use Rattle.std.specs.Prelude.{◌≡◌, ◌+◌};
 ghost use Rattle.std.specs.List.Sorted.{IsNonDecreasingBy};
-ghost use Rattle.fault_script.specs.Steps.{step_of, at_step};
+ghost use Rattle.fault_script.specs.Steps.{step_of_line, at_step};
 ghost use Rattle.fault_script.specs.Fits.{FitsRamAct, IsScriptFor};
-ghost use Rattle.ras_machine.specs.Place.{IsPlace};
+ghost use Rattle.ras_machine.specs.FirstLine.{IsFirstLineOf};
 
 use fault_script::{Act, ScriptLine};
 use poison_mem::{EventLog, FlipBus};
@@ -37,12 +37,12 @@ impl<B: FlipBus, G: EventLog> Protected<B, G> {
         }
     }
 
-    /// Does the acts of step `n`, whose place among the lines is `at`, and answers the place of the next step.
+    /// Does the acts of step `n`, whose first line has the number `at`, and answers that of the next step's.
     pub(crate) fn act_all(&mut self, n: u64, lines: &[ScriptLine], at: usize) -> usize
         requires script { IsScriptFor (B.meaning.words self.old.memory) lines.now }
-        requires place { IsPlace n lines.now at }
+        requires first { IsFirstLineOf n lines.now at }
         ensures after { self.new ≡ acts_done B.flips G.logged n (at_step n lines.now) self.old }
-        ensures next { IsPlace (n + 1) lines.now result }
+        ensures next { IsFirstLineOf (n + 1) lines.now result }
         ensures words { B.meaning.words self.new.memory ≡ B.meaning.words self.old.memory }
     {
         let mut next = at;
@@ -54,10 +54,10 @@ impl<B: FlipBus, G: EventLog> Protected<B, G> {
     }
 }
 
-/// The place of step `n` among the lines of a script.
-pub(crate) fn place_of(lines: &[ScriptLine], n: u64) -> usize
-    requires { IsNonDecreasingBy step_of lines.now }
-    ensures { IsPlace n lines.now result }
+/// The number of the first line of step `n`, or of a later step, in a script.
+pub(crate) fn first_line_of(lines: &[ScriptLine], n: u64) -> usize
+    requires { IsNonDecreasingBy step_of_line lines.now }
+    ensures { IsFirstLineOf n lines.now result }
 {
     let mut low = 0;
     let mut high = lines.len();

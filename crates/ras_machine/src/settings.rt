@@ -9,6 +9,6 @@ pub struct Settings {
     pub poll: u64,
     /// The steps from one patrol scrub to the next. It is 0, since there is no patrol yet.
     pub patrol: u64,
-    /// The most steps of a run, at most 1,000,000,000.
+    /// The most steps of a run, at most [`ras_bits::LAST_STEP`].
     pub budget: u64,
 }

@@ -1,14 +1,14 @@
 //! What the machine keeps between two steps, and its steps.
 
-ghost use Rattle.std.specs.Prelude.{◌≡◌, ◌+◌, ◌-◌, ◌<◌, ◌≤◌, ◌^◌, IfSome};
+ghost use Rattle.std.specs.Prelude.{◌≡◌, ◌+◌, ◌-◌, ◌<◌, ◌≤◌, ◌^◌, None};
 ghost use Rattle.fault_script.specs.Fits.{IsScriptFor};
-ghost use Rattle.ras_machine.specs.Place.{IsPlace};
+ghost use Rattle.ras_machine.specs.FirstLine.{IsFirstLineOf};
 
-use crate::ending::{Ending, Stop, ending_of};
-use crate::protected::{Protected, place_of};
+use crate::ending::{Ending, Stop, stopped};
+use crate::protected::{Protected, first_line_of};
 use fault_script::ScriptLine;
 use poison_mem::{EventLog, FlipBus};
-use rv64_hart::{Console, Hart};
+use rv64_hart::{Console, Hart, TurnEnd};
 
 /// The hart, the memory, the console, and how many steps are completed.
 #[derive(Drop)]
@@ -22,12 +22,14 @@ pub(crate) struct MachineState<B, G> {
 impl<B: FlipBus, G: EventLog> MachineState<B, G> {
     ghost use Rattle.ras_machine.specs.Machine.{moved, hart_step, steps_completed, machine_move, machine_run};
 
-    /// Makes the hart's step, and answers the ending that it brings, where it brings one.
-    fn step_hart(&mut self, input: &[u8]) -> Option<Ending>
-        requires { self.old.steps + 1 < 2 ^ 64 }
-        ensures after { moved self.old (hart_step B.meaning G.logged input.now self.old) ≡ record { after = self.new; ending = result } }
+    /// Makes the hart's step. The ending that it brings, where it brings one, is then in `ending`. Nothing is written there in
+    /// a step that goes on, since an ending that isn't there would be copied in each step.
+    fn step_hart(&mut self, input: &[u8], ending: &mut Option<Ending>)
+        requires fits { self.old.steps + 1 < 2 ^ 64 }
+        requires none { ending.old ≡ None }
+        ensures after { moved self.old (hart_step B.meaning G.logged input.now self.old) ≡ record { after = self.new; ending = ending.new } }
         ensures steps { self.new.steps ≤ self.old.steps + 1 }
-        ensures completed { self.new.steps ≡ steps_completed result self.old.steps }
+        ensures completed { self.new.steps ≡ steps_completed ending.new self.old.steps }
         ensures words { B.meaning.words self.new.protected.memory ≡ B.meaning.words self.old.protected.memory }
     {
         let n = self.steps;
@@ -40,33 +42,43 @@ impl<B: FlipBus, G: EventLog> MachineState<B, G> {
             input,
             &mut self.console,
         );
-        let ending = ending_of(answer, n, pc);
-        self.steps = match ending {
-            Some(ending) => ending.steps,
-            None => n + 1,
-        };
-        ending
+        match answer {
+            TurnEnd::Went => self.steps = n + 1,
+            TurnEnd::Stop(stop) => {
+                let stopped = stopped(stop, n);
+                self.steps = stopped.steps;
+                *ending = Some(stopped);
+            }
+            TurnEnd::Poisoned { w, use_kind } => {
+                *ending = Some(Ending {
+                    stop: Stop::Consumed { w, use_kind, pc },
+                    steps: n,
+                });
+            }
+        }
     }
 
-    /// Makes a step, and answers the ending that it brings, where it brings one. `at` is the place of this step among
-    /// the lines, and becomes that of the next step.
+    /// Makes a step. The ending that it brings, where it brings one, is then in `ending`. `at` is the number of this
+    /// step's first line, and becomes that of the next step's.
     pub(crate) fn step(
         &mut self,
         input: &[u8],
         lines: &[ScriptLine],
         at: &mut usize,
-    ) -> Option<Ending>
+        ending: &mut Option<Ending>,
+    )
         requires fits { self.old.steps + 1 < 2 ^ 64 }
         requires script { IsScriptFor (B.meaning.words self.old.protected.memory) lines.now }
-        requires place { IsPlace self.old.steps lines.now at.old }
-        ensures after { machine_move B.meaning B.flips G.logged input.now lines.now self.old ≡ record { after = self.new; ending = result } }
+        requires first { IsFirstLineOf self.old.steps lines.now at.old }
+        requires none { ending.old ≡ None }
+        ensures after { machine_move B.meaning B.flips G.logged input.now lines.now self.old ≡ record { after = self.new; ending = ending.new } }
         ensures steps { self.new.steps ≤ self.old.steps + 1 }
-        ensures completed { self.new.steps ≡ steps_completed result self.old.steps }
-        ensures place { IsPlace (self.old.steps + 1) lines.now at.new }
+        ensures completed { self.new.steps ≡ steps_completed ending.new self.old.steps }
+        ensures first { IsFirstLineOf (self.old.steps + 1) lines.now at.new }
         ensures words { B.meaning.words self.new.protected.memory ≡ B.meaning.words self.old.protected.memory }
     {
         *at = self.protected.act_all(self.steps, lines, *at);
-        self.step_hart(input)
+        self.step_hart(input, ending);
     }
 
     /// Makes steps up to an ending.
@@ -78,10 +90,12 @@ impl<B: FlipBus, G: EventLog> MachineState<B, G> {
         ensures ended { result.steps ≤ budget }
         ensures words { B.meaning.words self.new.protected.memory ≡ B.meaning.words self.old.protected.memory }
     {
-        let mut at = place_of(lines, self.steps);
+        let mut at = first_line_of(lines, self.steps);
         let from = self.steps;
+        let mut ended = None;
         for _ in from..budget {
-            match self.step(input, lines, &mut at) {
+            self.step(input, lines, &mut at, &mut ended);
+            match ended {
                 Some(ending) => return ending,
                 None => {}
             }

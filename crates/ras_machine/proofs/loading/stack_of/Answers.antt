@@ -1,5 +1,5 @@
 use Rattle.std.proofs.Common.{◌<◌, length, arith}
-use Rattle.mem_stack.specs.StackStands.{loaded_words, loaded_stands}
+use Rattle.mem_stack.specs.StackLaws.{loaded_words, loaded_stands}
 use Rattle.ras_machine.proofs.Filled.{filled, filled-length, all_filled}
 use Rattle.ras_machine.proofs.loading.stack_of.Goals as goal
 

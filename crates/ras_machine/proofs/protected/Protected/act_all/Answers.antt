@@ -1,15 +1,15 @@
 use Rattle.std.proofs.Common.{◌+◌, sym, ap, refl, arith}
 use Rattle.ras_machine.specs.Machine.{acts_done}
-use Rattle.ras_machine.proofs.Places.{no_line, from_place, acts_over, later_too}
+use Rattle.ras_machine.proofs.FirstLines.{no_line, from_first_line, acts_over, later_too}
 use Rattle.ras_machine.proofs.protected.Protected.act_all.Goals as goal
 
 pub loop-next-init : goal.loop-next-init
 loop-next-init g c = record {
-  left = ap (λ lines. acts_done g.B.FlipBus.flips g.G.EventLog.logged c.args.n lines c.args.self.now) (sym (from_place c.args.lines.now c.args.n c.args.at no_line c.requires.script.rising c.requires.place));
+  left = ap (λ lines. acts_done g.B.FlipBus.flips g.G.EventLog.logged c.args.n lines c.args.self.now) (sym (from_first_line c.args.lines.now c.args.n c.args.at no_line c.requires.script.rising c.requires.first));
   words = refl;
-  inside = c.requires.place.inside;
-  before = λ i d below. let less = c.requires.place.before i d below in omega arith;
-  behind = c.requires.place.behind;
+  inside = c.requires.first.inside;
+  before = λ i d below. let less = c.requires.first.before i d below in omega arith;
+  behind = c.requires.first.behind;
 }
 
 pub returns-else-lines-next-clause-after : goal.returns-else-lines-next-clause-after

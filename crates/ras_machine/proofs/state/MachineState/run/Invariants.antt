@@ -1,5 +1,5 @@
-use Rattle.std.proofs.Common.{◌≡◌, ◌-◌}
-use Rattle.ras_machine.specs.Place.{IsPlace}
+use Rattle.std.proofs.Common.{◌≡◌, ◌-◌, None}
+use Rattle.ras_machine.specs.FirstLine.{IsFirstLineOf}
 use Rattle.ras_machine.specs.Machine.{machine_run}
 use Rattle.ras_machine.proofs.state.MachineState.run.Given as goal
 
@@ -10,6 +10,7 @@ invariant-loop g l =
     record {
       left : over (l.budget - l.fn.self.steps) l.fn.self ≡ over (l.budget - l.self.steps) l.self;
       counter : l.self.steps ≡ l.counter;
-      place : IsPlace l.self.steps l.lines l.at;
+      none : l.ended ≡ None;
+      first : IsFirstLineOf l.self.steps l.lines l.at;
       words : g.B.Bus.meaning.words l.self.protected.memory ≡ g.B.Bus.meaning.words l.fn.self.protected.memory;
     }

@@ -1,8 +1,8 @@
 use Rattle.std.proofs.Common.{ℕ, ◌-◌, ◌<◌, ◌≤◌, length, slice_index_or}
 use Rattle.fault_script.specs.declared.lines.ScriptLine.{ScriptLine}
-use Rattle.ras_machine.proofs.protected.place_of.Given as goal
+use Rattle.ras_machine.proofs.protected.first_line_of.Given as goal
 
--- the place is neither below the one nor above the other
+-- the first line is neither before the one nor behind the other
 abbrev pub invariant-loop-low : goal.invariant-loop-low
 invariant-loop-low l = record {
   order : l.low ≤ l.high;
