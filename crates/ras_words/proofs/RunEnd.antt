@@ -7,13 +7,13 @@ use Rattle.clap.specs.Takes.{is_given}
 use Rattle.clap.specs.Facts.{explicit_source}
 use Rattle.std.specs.Option.{option_map_or}
 use Rattle.clap.specs.declared.parser.matches.ValueSource.TheVariants.{DefaultValue}
-use Rattle.ras_words.specs.Reading.{Text, Given, has}
+use Rattle.ras_words.specs.Reading.{WordText, Given, has}
 use Rattle.ras_words.proofs.Small.{or_false}
 use Rattle.ras_words.proofs.Rows.{row_for, at_new}
 use Rattle.ras_words.proofs.RunCommand.{ended_rows}
 
 -- what was given counts as given for clap
-pub given_row : (id : Text) (given : Given) → has id given ≡ true → is_given id (map row_for given) ≡ true
+pub given_row : (id : WordText) (given : Given) → has id given ≡ true → is_given id (map row_for given) ≡ true
 given_row id [] h = cc
 given_row id (g ∷ gs) h = go (bytes_eq g.0 id) h (given_row id gs)
   where
@@ -23,7 +23,7 @@ given_row id (g ∷ gs) h = go (bytes_eq g.0 id) h (given_row id gs)
     go false h next' = next' h
 
 -- more rows change nothing of it
-pub given_append : (id : Text) (rows more : List Row) → is_given id rows ≡ true → is_given id (rows ++ more) ≡ true
+pub given_append : (id : WordText) (rows more : List Row) → is_given id rows ≡ true → is_given id (rows ++ more) ≡ true
 given_append id [] more h = cc
 given_append id (r ∷ rs) more h = go (bytes_eq r.id id) h (given_append id rs more)
   where
@@ -56,7 +56,7 @@ given_ended given h = go (ended_is (map row_for given))
     go (inr e) = ap (is_given (codes "image")) e ∙ given_append (codes "image") (map row_for given) _ (given_row (codes "image") given h)
 
 -- what was not given does not count
-pub not_given : (id : Text) (given : Given) (more : List Row) → has id given ≡ false → is_given id more ≡ false → is_given id (map row_for given ++ more) ≡ false
+pub not_given : (id : WordText) (given : Given) (more : List Row) → has id given ≡ false → is_given id more ≡ false → is_given id (map row_for given ++ more) ≡ false
 not_given id [] more h m = m
 not_given id (g ∷ gs) more h m =
     let k = or_false (bytes_eq g.0 id) (has id gs) h in rw k.0 (not_given id gs more k.1 m)

@@ -3,10 +3,10 @@ use Rattle.std.proofs.Common.{min, ◌<◌, ◌+◌, List, ◌≡◌, ℕ, [], �
 use Rattle.std.proofs.lemmas.Bool.{lt-ltb}
 use Rattle.std.proofs.lemmas.Bool.Decides.{nat_tests}
 use Rattle.clap.specs.declared.error.kind.ErrorKind.{ErrorKind}
-use Rattle.std.specs.Prelude.{is_some, ◌&&◌, ◌||◌}
+use Rattle.std.specs.Prelude.{◌&&◌, ◌||◌}
 use Rattle.std.specs.Str.{bytes_eq}
 use Rattle.clap.specs.Kinds.{Kinds, or_else}
-use Rattle.ras_words.specs.Reading.{Text, is_empty}
+use Rattle.ras_words.specs.Reading.{WordText, is_empty}
 
 pub find_none : (b : Bool) → (b || false) ≡ b
 find_none true = refl
@@ -20,11 +20,11 @@ pub or_false : (a b : Bool) → (a || b) ≡ false → (a ≡ false) × (b ≡ f
 or_false true b h = cc
 or_false false b h = (refl, h)
 
-pub not_empty : (v : Text) → is_empty v ≡ false → nat_lt 0 (length v) ≡ true
+pub not_empty : (v : WordText) → is_empty v ≡ false → nat_lt 0 (length v) ≡ true
 not_empty [] h = cc
 not_empty (x ∷ xs) h = lt-ltb 0 (length (x ∷ xs)) (omega arith)
 
-pub empty_is : (v : Text) → is_empty v ≡ true → nat_lt 0 (length v) ≡ false
+pub empty_is : (v : WordText) → is_empty v ≡ true → nat_lt 0 (length v) ≡ false
 empty_is [] h = refl
 empty_is (x ∷ xs) h = grind (arith, nat_tests)
 
@@ -34,7 +34,7 @@ some_is x y e = cc
 pub same_number : (x : ℕ) → nat_eq x x ≡ true
 same_number x = grind (arith, nat_tests)
 
-pub same_bytes : (xs : Text) → bytes_eq xs xs ≡ true
+pub same_bytes : (xs : WordText) → bytes_eq xs xs ≡ true
 same_bytes [] = refl
 same_bytes (x ∷ xs) = rw (same_number x) (same_bytes xs)
 
@@ -45,10 +45,6 @@ or_true false = refl
 pub and_false : (b : Bool) → (b && false) ≡ false
 and_false true = refl
 and_false false = refl
-
-pub none_is : {X : Type 0} (o : Option X) → is_some o ≡ false → o ≡ None
-none_is None h = refl
-none_is (Some x) h = cc
 
 pub same_cond : {X : Type 0} (b : Bool) (x : X) → cond b x x ≡ x
 same_cond true x = refl
@@ -73,6 +69,6 @@ bytes_eq_sym [] (y ∷ ys) = refl
 bytes_eq_sym (x ∷ xs) [] = refl
 bytes_eq_sym (x ∷ xs) (y ∷ ys) = rw (number_eq_sym x y, bytes_eq_sym xs ys) refl
 
--- a place that can still grow
-pub min_below : (place most : ℕ) → place < most → min (place + 1) most ≡ place + 1
-min_below place most h = grind arith
+-- a position that can still grow
+pub min_below : (position most : ℕ) → position < most → min (position + 1) most ≡ position + 1
+min_below position most h = grind arith

@@ -7,25 +7,25 @@ use Rattle.std.specs.declared.alloc.Global.{Global}
 use Rattle.std.specs.List.{AllByRecursion}
 use Rattle.std.specs.Str.{chars, IsUtf8}
 use Rattle.clap.specs.Lexer.{short_of, short_of_rest}
-use Rattle.ras_words.specs.Reading.{Text}
+use Rattle.ras_words.specs.Reading.{WordText}
 use Rattle.ras_words.specs.Texts.{texts_of}
 
 -- what follows the first `-` spells a character
-abbrev pub IsSpelled : Text → Type 0
-IsSpelled word = (flags : Text) → short_of word ≡ Some flags → (x : ℕ) × (slice_get (chars flags) 0 ≡ Some x)
+abbrev pub IsSpelled : WordText → Type 0
+IsSpelled word = (flags : WordText) → short_of word ≡ Some flags → (x : ℕ) × (slice_get (chars flags) 0 ≡ Some x)
 
-abbrev AfterDash : Text → Text → Type 0
-AfterDash word flags = (word ≡ 45 ∷ flags) × ((y : ℕ) × (ys : Text) × (flags ≡ y ∷ ys))
+abbrev AfterDash : WordText → WordText → Type 0
+AfterDash word flags = (word ≡ 45 ∷ flags) × ((y : ℕ) × (ys : WordText) × (flags ≡ y ∷ ys))
 
-after_dash : (word flags : Text) → short_of word ≡ Some flags → AfterDash word flags
+after_dash : (word flags : WordText) → short_of word ≡ Some flags → AfterDash word flags
 after_dash [] flags h = cc
 after_dash (x ∷ rest) flags h = go (nat_eq x 45) refl rest h
   where
-    inner : (b : Bool) (y : ℕ) (ys : Text) → cond b None (Some (y ∷ ys)) ≡ Some flags → flags ≡ y ∷ ys
+    inner : (b : Bool) (y : ℕ) (ys : WordText) → cond b None (Some (y ∷ ys)) ≡ Some flags → flags ≡ y ∷ ys
     inner true y ys h = cc
     inner false y ys h = cc
 
-    go : (b : Bool) → nat_eq x 45 ≡ b → (rest : Text) → option_and_then short_of_rest (cond b (Some rest) None) ≡ Some flags → AfterDash (x ∷ rest) flags
+    go : (b : Bool) → nat_eq x 45 ≡ b → (rest : WordText) → option_and_then short_of_rest (cond b (Some rest) None) ≡ Some flags → AfterDash (x ∷ rest) flags
     go false e rest h = cc
     go true e [] h = cc
     go true e (y ∷ ys) h =
@@ -33,13 +33,13 @@ after_dash (x ∷ rest) flags h = go (nat_eq x 45) refl rest h
         let first : x ≡ 45 = grind (arith, nat_tests) in
         (rw (first, k) refl, (y, ys, k))
 
-pub text_is_spelled : (word : Text) → IsUtf8 word → IsSpelled word
+pub text_is_spelled : (word : WordText) → IsUtf8 word → IsSpelled word
 text_is_spelled word u flags h =
     let a = after_dash word flags h in
     let v : IsUtf8 flags = IsUtf8-past_char word flags 45 u (a.0 ∙ ap (λ front. front ++ flags) (sym (encode_ascii 45 (omega arith)))) in
     first (chars flags) (encodes-chars flags v) a.1
   where
-    first : (cs : List ℕ) → encode_utf8_all cs ≡ flags → ((y : ℕ) × (ys : Text) × (flags ≡ y ∷ ys)) → (x : ℕ) × (slice_get cs 0 ≡ Some x)
+    first : (cs : List ℕ) → encode_utf8_all cs ≡ flags → ((y : ℕ) × (ys : WordText) × (flags ≡ y ∷ ys)) → (x : ℕ) × (slice_get cs 0 ≡ Some x)
     first [] e n = let k : [] ≡ n.0 ∷ n.1 = e ∙ n.2 in cc
     first (c ∷ cs) e n = (c, refl)
 

@@ -1,15 +1,15 @@
 -- Words as the program holds them.
 use Rattle.std.specs.Prelude.{◌≡◌, ◌≤◌, List, map, Some, option_map, codes, string_bytes, String}
 use Rattle.std.specs.declared.alloc.Global.{Global}
-use Rattle.ras_words.specs.Reading.{Text, Given, has, value_of, given_by}
+use Rattle.ras_bits.specs.declared.map.TheConstants.{LAST_STEP}
+use Rattle.ras_words.specs.Reading.{WordText, Given, has, value_of, given_by}
 use Rattle.ras_words.specs.Run as run
-use Rattle.ras_words.specs.Limits as limits
 use Rattle.ras_words.specs.declared.run_words.RunWords.{RunWords}
 use Rattle.ras_words.specs.declared.run_texts.RunTexts.{RunTexts}
-use Rattle.ras_words.specs.declared.limits.Limit.{Limit}
+use Rattle.ras_words.specs.declared.limits.TheConstants.{LEAST_RAM_MIB, MOST_RAM_MIB}
 
 -- the bytes of each word
-abbrev pub texts_of : List (String Global) → List Text
+abbrev pub texts_of : List (String Global) → List WordText
 texts_of words = map (λ word. string_bytes word) words
 
 -- the run that was read
@@ -25,13 +25,9 @@ run_in words = record {
 
 -- its numbers are in their ranges
 pub record IsInLimits (words : RunWords) : Type 0 where
-  pub budget : words.budget ≤ 1000000000
-  pub ram_least : 1 ≤ words.ram_mib
-  pub ram_most : words.ram_mib ≤ 64
-
--- limits as the program holds them
-abbrev pub limit_in : Limit → limits.Limit
-limit_in limit = record { least = limit.least; most = limit.most; default = limit.default }
+  pub budget : words.budget ≤ LAST_STEP
+  pub ram_least : LEAST_RAM_MIB ≤ words.ram_mib
+  pub ram_most : words.ram_mib ≤ MOST_RAM_MIB
 
 -- the texts are those that were given
 pub record IsGiven (given : Given) (texts : RunTexts) : Type 0 where
@@ -43,7 +39,7 @@ pub record IsGiven (given : Given) (texts : RunTexts) : Type 0 where
   pub ram_mib : option_map (λ s. s.now) texts.ram_mib ≡ value_of (codes "ram-mib") given
 
 -- the words after `run` give these texts
-pub record IsReadFrom (words : List Text) (texts : RunTexts) : Type 0 where
+pub record IsReadFrom (words : List WordText) (texts : RunTexts) : Type 0 where
   pub given : Given
   pub read : given_by run.run_options run.run_plain words ≡ Some given
   pub is : IsGiven given texts

@@ -8,7 +8,8 @@ mod limits;
 mod run_texts;
 mod run_words;
 
+pub use limits::{
+    DEFAULT_BUDGET, DEFAULT_RAM_MIB, IMAGE_LIMIT, INPUT_LIMIT, LEAST_RAM_MIB, MOST_RAM_MIB,
+    SCRIPT_LIMIT,
+};
 pub use run_words::{RunWords, WordsError, read_words};
-
-#[cfg(test)]
-mod tests;
