@@ -1,26 +1,25 @@
 -- How a run ends over any host.
-use Rattle.std.proofs.Common.{◌≡◌, ◌≢◌, ℕ, ◌≤◌, arith, List, [], ◌∷◌, ◌++◌, append_assoc, refl, sym, ◌∙◌, inl, inr, subst}
+use Rattle.std.proofs.Common.{◌≡◌, ◌≢◌, ℕ, ◌≤◌, arith, List, [], ◌∷◌, ◌++◌, append_assoc, sym, inl, inr, subst}
 use Rattle.std.specs.Prelude.{◌⊎◌}
 use Rattle.ras_host.specs.Causes.{Rose}
-use Rattle.ras_host.specs.Told.{Bytes, Outside, Action, Read, Err, Performs}
-use Rattle.ras_cli.proofs.PerformsLemmas.{performs_append, reads_append}
-use Rattle.ras_cli.specs.Plan.{Planned, line_written}
-use Rattle.ras_cli.specs.Accepted.{Does, named_read}
+use Rattle.ras_host.specs.Told.{Bytes, Outside, HostAction, Read, Err, Performs}
+use Rattle.ras_host.specs.ToldLaws.{performs_append}
+use Rattle.ras_cli.specs.Plan.{line_written}
 use Rattle.ras_cli.specs.Follows.{AreReads, Follows, OnlyReads, WritesLine, RunEnds}
-use Rattle.ras_cli.proofs.FollowsLemmas.{not_four}
+use Rattle.ras_cli.proofs.FollowsLemmas.{not_four, reads_append}
 
 -- reads, and then nothing but reads
-reads_then : (a b c : Outside) (reads : List Action) → AreReads reads → Performs a b reads → OnlyReads b c → OnlyReads a c
+reads_then : (a b c : Outside) (reads : List HostAction) → AreReads reads → Performs a b reads → OnlyReads b c → OnlyReads a c
 reads_then a b c reads all h (inl e) = inr (reads, all, subst (λ o. Performs a o reads) (sym e) h)
 reads_then a b c reads all h (inr k) = inr (reads ++ k.0, reads_append reads k.0 all k.1, performs_append a b c reads k.0 h k.2)
 
 -- reads, and then a line
-reads_line : (a b c : Outside) (reads : List Action) → AreReads reads → Performs a b reads → WritesLine b c → WritesLine a c
+reads_line : (a b c : Outside) (reads : List HostAction) → AreReads reads → Performs a b reads → WritesLine b c → WritesLine a c
 reads_line a b c reads all h k = (
   reads ++ k.0,
   k.1,
   reads_append reads k.0 all k.2,
-  subst (λ (l : List Action). Performs a c l) (sym (append_assoc reads k.0 (Err k.1 ∷ []))) (performs_append a b c reads (k.0 ++ Err k.1 ∷ []) h k.3),
+  subst (λ (l : List HostAction). Performs a c l) (sym (append_assoc reads k.0 (Err k.1 ∷ []))) (performs_append a b c reads (k.0 ++ Err k.1 ∷ []) h k.3),
 )
 
 pub rose_later : (first before now : ℕ) → first ≤ before → Rose before now → Rose first now
@@ -76,7 +75,7 @@ memory_ends a b faults now reads later = record {
 }
 
 -- reads, and then an end
-pub reads_end : (a b c : Outside) (reads : List Action) (first faults now code : ℕ) → AreReads reads → Performs a b reads → first ≤ faults → RunEnds b c faults now code → RunEnds a c first now code
+pub reads_end : (a b c : Outside) (reads : List HostAction) (first faults now code : ℕ) → AreReads reads → Performs a b reads → first ≤ faults → RunEnds b c faults now code → RunEnds a c first now code
 reads_end a b c reads first faults now code all h low e = record {
   range = e.range;
   words = e.words;

@@ -1,42 +1,22 @@
 -- A plan is followed call by call.
 use Rattle.std.proofs.Common.{◌≡◌, ◌≢◌, ℕ, ◌≤◌, arith, Bool, true, false, Option, Some, None, length, List, [], ◌∷◌, ◌++◌, nat_eq, append-nil, append_assoc, refl, sym, ◌∙◌, ap, inl, inr, subst}
-use Rattle.std.specs.Prelude.{Vec, IfSome, ◌⊎◌}
-use Rattle.std.specs.declared.alloc.Global.{Global}
+use Rattle.std.specs.Prelude.{IfSome, ◌⊎◌}
 use Rattle.std.proofs.lemmas.Bool.{le-ltb, lt-ltb}
 use Rattle.std.proofs.lemmas.Bool.Decides.{nat_tests}
 use Rattle.ras_host.specs.Reads.{Gets}
 use Rattle.ras_host.specs.declared.outside.Got.TheVariants.{Longer}
-use Rattle.ras_host.specs.Told.{Bytes, File, bytes_of, Outside, Call, call_of, calls_of, Action, Read, Create, MissCreate, Out, Err, Performs}
-use Rattle.ras_host.proofs.ToldLemmas.{performs_then}
-use Rattle.ras_cli.proofs.PerformsLemmas.{performs_append, calls_append, reads_append}
+use Rattle.ras_host.specs.Told.{Bytes, File, bytes_of, Outside, HostCall, host_call_of, calls_of, HostAction, Read, Create, MissCreate, Out, Err, Performs}
+use Rattle.ras_host.specs.ToldLaws.{performs_append, performs_then, calls_append}
 use Rattle.ras_words.specs.Run.{Run, run_of}
 use Rattle.ras_cli.specs.Refusals.{usage}
 use Rattle.ras_cli.specs.Plan.{Plan, Finish, Reading, Planned, calls_then, carried_out, plan_of, planned_by, line_written}
-use Rattle.ras_cli.specs.Follows.{IsFailed, IsCut, IsRead, AreReads, IsStopped, IsFront, MakesFront, Follows, OnlyReads, WritesLine}
+use Rattle.ras_cli.specs.Follows.{IsFailed, IsCut, AreReads, IsStopped, IsFront, MakesFront, Follows, WritesLine}
 
-abbrev planned : ℕ → List Action → Planned
+abbrev planned : ℕ → List HostAction → Planned
 planned code actions = record { code = code; actions = actions }
 
 three≢four : (a b : ℕ) → a ≡ 3 → b ≡ 4 → a ≡ b → ⊥
 three≢four a b p q e = omega (arith, p, q, e)
-
--- a plan of one call that was made
-pub follows_one : (a b : Outside) (action : Action) (code : ℕ) → code ≢ 3 → code ≢ 4 → Performs a b (action ∷ []) → Follows a b (planned code (action ∷ [])) code
-follows_one a b action code no3 no4 h = record {
-  status = λ _ _. refl;
-  whole = λ _ _. h;
-  cut = λ e. absurd (no3 e);
-  stopped = λ e. absurd (no4 e);
-}
-
--- a plan whose first call failed
-pub follows_failed : (a b : Outside) (action : Action) (done rest : List Action) (code : ℕ) → IsFailed action done → Performs a b done → Follows a b (planned code (action ∷ rest)) 3
-follows_failed a b action done rest code f h = record {
-  status = λ no3 _. absurd (no3 refl);
-  whole = λ no3 _. absurd (no3 refl);
-  cut = λ _. (done, inl f, h);
-  stopped = λ e. absurd (three≢four 3 4 refl refl e);
-}
 
 -- want of memory before any call
 pub follows_nothing : (a : Outside) (plan : Planned) → Follows a a plan 4
@@ -47,14 +27,19 @@ follows_nothing a plan = record {
   stopped = λ _. inl refl;
 }
 
-abbrev Stopped : Outside → Outside → List Action → Type 0
-Stopped a b actions = (b ≡ a) ⊎ ((done : List Action) × IsStopped actions done × Performs a b done)
+-- reads, and then reads
+pub reads_append : (xs ys : List HostAction) → AreReads xs → AreReads ys → AreReads (xs ++ ys)
+reads_append [] ys h g = g
+reads_append (x ∷ xs) ys h g = (h.0, reads_append xs ys h.1 g)
 
-cut_append : (reads actions done : List Action) → IsCut actions done → IsCut (reads ++ actions) (reads ++ done)
+abbrev Stopped : Outside → Outside → List HostAction → Type 0
+Stopped a b actions = (b ≡ a) ⊎ ((done : List HostAction) × IsStopped actions done × Performs a b done)
+
+cut_append : (reads actions done : List HostAction) → IsCut actions done → IsCut (reads ++ actions) (reads ++ done)
 cut_append [] actions done h = h
 cut_append (x ∷ reads) actions done h = inr (reads ++ done, refl, cut_append reads actions done h)
 
-stopped_append : (a b c : Outside) (reads actions : List Action) → AreReads reads → Performs a b reads → Stopped b c actions → Stopped a c (reads ++ actions)
+stopped_append : (a b c : Outside) (reads actions : List HostAction) → AreReads reads → Performs a b reads → Stopped b c actions → Stopped a c (reads ++ actions)
 stopped_append a b c reads actions all h (inl e) =
     inr (reads, record { rest = actions; front = refl; reads = all }, subst (λ o. Performs a o reads) (sym e) h)
 stopped_append a b c reads actions all h (inr k) =
@@ -62,14 +47,14 @@ stopped_append a b c reads actions all h (inr k) =
       reads ++ k.0,
       record {
         rest = k.1.rest;
-        front = ap (λ (l : List Action). reads ++ l) k.1.front ∙ sym (append_assoc reads k.0 k.1.rest);
+        front = ap (λ (l : List HostAction). reads ++ l) k.1.front ∙ sym (append_assoc reads k.0 k.1.rest);
         reads = reads_append reads k.0 all k.1.reads;
       },
       performs_append a b c reads k.0 h k.2,
     )
 
 -- reads that were made, and then the rest of the plan
-pub follows_reads : (a b c : Outside) (reads : List Action) (rest : Planned) (code : ℕ) → AreReads reads → Performs a b reads → Follows b c rest code → Follows a c (calls_then reads rest) code
+pub follows_reads : (a b c : Outside) (reads : List HostAction) (rest : Planned) (code : ℕ) → AreReads reads → Performs a b reads → Follows b c rest code → Follows a c (calls_then reads rest) code
 follows_reads a b c reads rest code all h g = record {
   status = g.status;
   whole = λ no3 no4. performs_append a b c reads rest.actions h (g.whole no3 no4);
@@ -81,7 +66,7 @@ pub follows_read : (a b c : Outside) (name : Bytes) (limit : ℕ) (rest : Planne
 follows_read a b c name limit rest code h g = follows_reads a b c (Read name limit ∷ []) rest code (tt, tt) h g
 
 -- a call that was made, and then the others, of which none wants memory
-pub follows_then : (a b c : Outside) (action : Action) (actions : List Action) (code status : ℕ) → status ≢ 4 → Performs a b (action ∷ []) → Follows b c (planned code actions) status → Follows a c (planned code (action ∷ actions)) status
+pub follows_then : (a b c : Outside) (action : HostAction) (actions : List HostAction) (code status : ℕ) → status ≢ 4 → Performs a b (action ∷ []) → Follows b c (planned code actions) status → Follows a c (planned code (action ∷ actions)) status
 follows_then a b c action actions code status no4 h g = record {
   status = g.status;
   whole = λ no3 n4. performs_then a b c action actions h (g.whole no3 n4);
@@ -110,11 +95,6 @@ pub within_limit : (files : List File) (name : Bytes) (limit : ℕ) (longer : Pl
     → calls_then (Read name limit ∷ []) (carried_out (whole (bytes_of files name)) files) ≡ carried_out (Reading name limit longer whole) files
 within_limit files name limit longer whole fits = rw (le-ltb limit (length (bytes_of files name)) fits) refl
 
--- a read that failed
-pub failed_read : (files : Option (List File)) (name : Bytes) (limit : ℕ) (longer : Plan) (a b : Outside)
-    → Performs a b (Read name limit ∷ []) → IfSome files (λ fs. (whole : Bytes → Plan) → Follows a b (carried_out (Reading name limit longer whole) fs) 3)
-failed_read files name limit longer a b h = if_some_all files _ (λ fs whole. follows_failed a b (Read name limit) (Read name limit ∷ []) _ _ refl h)
-
 -- a read that met want of memory
 pub unread : (files : Option (List File)) (name : Bytes) (limit : ℕ) (longer : Plan) (a b : Outside)
     → Performs a b (Read name limit ∷ []) → IfSome files (λ fs. (whole : Bytes → Plan) → Follows a b (carried_out (Reading name limit longer whole) fs) 4)
@@ -131,11 +111,11 @@ refused_words (Some fs) words a b code e h = rw e h
 front_all : (plan : Planned) → IsFront plan plan.actions
 front_all plan = record { rest = []; front = sym (append-nil (calls_of plan.actions)) }
 
-cut_front : (actions done : List Action) → IsCut actions done → (rest : List Call) × (calls_of actions ≡ calls_of done ++ rest)
+cut_front : (actions done : List HostAction) → IsCut actions done → (rest : List HostCall) × (calls_of actions ≡ calls_of done ++ rest)
 cut_front [] done h = absurd h
 cut_front (x ∷ xs) done (inl f) = failed x f
   where
-    failed : (x : Action) → IsFailed x done → (rest : List Call) × (calls_of (x ∷ xs) ≡ calls_of done ++ rest)
+    failed : (x : HostAction) → IsFailed x done → (rest : List HostCall) × (calls_of (x ∷ xs) ≡ calls_of done ++ rest)
     failed (Read name limit) e = (calls_of xs, rw e refl)
     failed (Create name bytes) (inl e) = (calls_of xs, rw e refl)
     failed (Create name bytes) (inr e) = (calls_of xs, rw e.1 refl)
@@ -144,7 +124,7 @@ cut_front (x ∷ xs) done (inl f) = failed x f
     failed (Err bytes) e = (calls_of xs, rw e.1 refl)
 cut_front (x ∷ xs) done (inr k) =
     let more = cut_front xs k.0 k.2 in
-    (more.0, rw k.1 (ap (λ (l : List Call). call_of x ∷ l) more.1))
+    (more.0, rw k.1 (ap (λ (l : List HostCall). host_call_of x ∷ l) more.1))
 
 pub makes_front : (a b : Outside) (plan : Planned) (code : ℕ) → Follows a b plan code → MakesFront a b plan
 makes_front a b plan code f = by_three (nat_eq code 3) refl
@@ -152,7 +132,7 @@ makes_front a b plan code f = by_three (nat_eq code 3) refl
     by_four : code ≢ 3 → (t : Bool) → nat_eq code 4 ≡ t → MakesFront a b plan
     by_four no3 true e = by_stop (f.stopped (grind (arith, nat_tests)))
       where
-        by_stop : (b ≡ a) ⊎ ((done : List Action) × IsStopped plan.actions done × Performs a b done) → MakesFront a b plan
+        by_stop : (b ≡ a) ⊎ ((done : List HostAction) × IsStopped plan.actions done × Performs a b done) → MakesFront a b plan
         by_stop (inl same) = inl same
         by_stop (inr k) = inr (k.0, record { rest = calls_of k.1.rest; front = ap calls_of k.1.front ∙ calls_append k.0 k.1.rest }, k.2)
     by_four no3 false e = inr (plan.actions, front_all plan, f.whole no3 (grind (arith, nat_tests)))

@@ -1,61 +1,33 @@
 -- The headline, out of what was done and the two-run theorem.
-use Rattle.std.proofs.Common.{◌≡◌, ◌≢◌, ℕ, zero, suc, ◌+◌, ◌≤◌, arith, Bool, true, false, List, [], ◌∷◌, ◌++◌, length, Option, Some, None, Ok, refl, sym, ◌∙◌, ap, subst, inl, inr}
-use Rattle.std.specs.Prelude.{IfSome, ◌⊎◌, if◌then◌else◌}
+use Rattle.std.proofs.Common.{◌≡◌, ◌≢◌, ℕ, ◌≤◌, arith, List, [], ◌∷◌, ◌++◌, Option, Some, None, Ok, refl, sym, ◌∙◌, ap, subst, inl, inr}
+use Rattle.std.specs.Prelude.{IfSome, ◌⊎◌}
 use Rattle.elf_load.specs.Program.{Program}
 use Rattle.fault_script.specs.Steps.{InRisingSteps}
 use Rattle.fault_script.specs.declared.lines.ScriptLine.{ScriptLine}
-use Rattle.ras_host.specs.Told.{Bytes, File, Outside, Action, Out, Err, Performs}
+use Rattle.ras_host.specs.Told.{Bytes, File, Outside, HostAction, Out, Err, Performs}
 use Rattle.rv64_hart.specs.State.{ArchitecturalState}
-use Rattle.rv64_hart.specs.Outcome.{Outcome, End, has_room}
-use Rattle.sbi_calls.specs.declared.stop.GuestStop.{GuestStop}
 use Rattle.ras_machine.specs.declared.ending.Stop.{Stop}
 use Rattle.ras_machine.specs.declared.ending.Stop.TheVariants as stops
 use Rattle.ras_machine.specs.declared.ending.Ending.{Ending}
 use Rattle.ras_machine.specs.declared.settings.Settings.{Settings}
-use Rattle.ras_machine.specs.Ends.{guest_ends}
-use Rattle.ras_machine.specs.Flat.{FlatState, FlatMove, FlatRun, flat_start, flat_outcome, flat_step, flat_run, ram_after}
-use Rattle.ras_machine.specs.Runs.{ended_or}
+use Rattle.ras_machine.specs.Flat.{FlatState, flat_start, flat_run}
 use Rattle.ras_machine.specs.TwoRuns.{FirstWay, SecondWay}
+use Rattle.ras_machine.proofs.FlatRuns.{flat_stops}
 use Rattle.ras_words.specs.Run.{Run}
 use Rattle.ras_cli.specs.Report.{report_of}
 use Rattle.ras_cli.specs.Runs.{FaultyRun, faulty_run, flat_run_of, KeepsToFlatRun}
 use Rattle.ras_cli.specs.Plan.{Planned, calls_then, carried_out, plan_of, settings_of, results_of, status_of}
-use Rattle.ras_cli.specs.Accepted.{IsAccepted, IsReadAs, reads_of}
+use Rattle.ras_cli.specs.Accepted.{IsAccepted, AreReadInputs, reads_of}
 use Rattle.ras_cli.specs.Follows.{Follows}
-use Rattle.ras_cli.specs.Headline.{IsWhole, Completes, EndsAsFlat, StopsAtFlips, KeepsToFlatMachine, Headline}
+use Rattle.ras_cli.specs.Headline.{IsWholeRun, Completes, EndsAsFlat, StopsAtFlips, KeepsToFlatMachine, Headline}
 use Rattle.ras_cli.proofs.AcceptedLemmas.{planned_accepted, all_are_reads}
 use Rattle.ras_cli.proofs.FollowsLemmas.{follows_reads}
 
 -- ---- statuses
 
 -- a run of the flat machine never stops at poison
-guest_status : (stop : Option GuestStop) (n : ℕ) → IfSome (guest_ends stop n) (λ (e : Ending). status_of e.stop ≡ 0)
-guest_status None n = tt
-guest_status (Some (GuestStop.Shutdown reason)) n = refl
-guest_status (Some (GuestStop.Reboot reboot_kind)) n = refl
-guest_status (Some GuestStop.ConsoleFull) n = refl
-
-outcome_status : (n : ℕ) (s : FlatState) (o : Outcome) → IfSome (flat_outcome n s o).ending (λ (e : Ending). status_of e.stop ≡ 0)
-unfolding flat_outcome
-outcome_status n s (End after stores bytes stop) = by_room (has_room s.console bytes)
-  where
-    by_room : (room : Bool) → let move : FlatMove = if room
-        then record { after = record { hart = after; ram = ram_after s.ram stores; console = s.console ++ bytes }; ending = guest_ends stop n }
-        else record { after = s; ending = Some (record { stop = stops.ConsoleFull; steps = n }) } in
-        IfSome move.ending (λ (e : Ending). status_of e.stop ≡ 0)
-    by_room true = guest_status stop n
-    by_room false = refl
-
-ended_status : (e : Option Ending) (s : FlatState) (more : FlatRun) → IfSome e (λ (x : Ending). status_of x.stop ≡ 0) → status_of more.ending.stop ≡ 0 → status_of (ended_or e s more).ending.stop ≡ 0
-ended_status None s more h g = g
-ended_status (Some e) s more h g = h
-
 flat_status : (input : List ℕ) (left n : ℕ) (s : FlatState) → status_of (flat_run input left n s).ending.stop ≡ 0
-unfolding flat_run
-flat_status input zero n s = refl
-flat_status input (suc left) n s =
-    let move = flat_step input n s in
-    ended_status move.ending move.after (flat_run input left (n + 1) move.after) (outcome_status n s _) (flat_status input left (n + 1) move.after)
+flat_status input left n s = flat_stops (λ stop. status_of stop ≡ 0) (λ reason. refl) (λ reboot_kind. refl) refl refl input left n s
 
 either_status : (stop : Stop) → (status_of stop ≡ 0) ⊎ (status_of stop ≡ 5)
 either_status (stops.Shutdown reason) = inl refl
@@ -68,7 +40,7 @@ either_status (stops.Consumed w use_kind pc) = inr refl
 
 -- what was done is the plan of the accepted files
 is_whole : (files : List File) (run : Run) (image : Program) (lines : List ScriptLine) (input : Bytes) (a b : Outside) (code : ℕ) → IsAccepted files run image lines input
-    → Follows a b (carried_out (plan_of (Some run)) files) code → code ≢ 3 → code ≢ 4 → IsWhole run (faulty_run image (settings_of run) input lines) a b code
+    → Follows a b (carried_out (plan_of (Some run)) files) code → code ≢ 3 → code ≢ 4 → IsWholeRun run (faulty_run image (settings_of run) input lines) a b code
 is_whole files run image lines input a b code k f no3 no4 =
     let faulty : FaultyRun = faulty_run image (settings_of run) input lines in
     let plan : Follows a b (calls_then (reads_of run) (results_of faulty)) code = subst (λ (p : Planned). Follows a b p code) (sym (planned_accepted files run image lines input k)) f in
@@ -94,15 +66,15 @@ results_with : (faulty : FaultyRun) (console : Bytes) (ending : Ending) (hart : 
     → faulty.after.protected.beyond ≡ None → (results_of faulty).actions ≡ Out console ∷ Err (report_of ending faulty.after.protected.log None hart) ∷ []
 results_with faulty console ending hart c e h n = rw (c, e, h, n) refl
 
-ends_as_flat : (run : Run) (image : Program) (input : Bytes) (faulty : FaultyRun) (a b : Outside) (code : ℕ) → IsWhole run faulty a b code → faulty.after.protected.beyond ≡ None
+ends_as_flat : (run : Run) (image : Program) (input : Bytes) (faulty : FaultyRun) (a b : Outside) (code : ℕ) → IsWholeRun run faulty a b code → faulty.after.protected.beyond ≡ None
     → FirstWay (flat_run_of image (settings_of run) input) faulty.ending faulty.after → EndsAsFlat run image input faulty a b code
 ends_as_flat run image input faulty a b code w none f = record {
   status = w.status ∙ ap (λ (e : Ending). status_of e.stop) f.same_ending ∙ flat_status input run.budget 0 (flat_start image);
-  written = subst (λ (l : List Action). Performs a b (reads_of run ++ l)) (results_with faulty _ _ _ f.console f.same_ending f.hart none) w.written;
+  written = subst (λ (l : List HostAction). Performs a b (reads_of run ++ l)) (results_with faulty _ _ _ f.console f.same_ending f.hart none) w.written;
   hart = f.hart;
 }
 
-stops_at_flips : (run : Run) (image : Program) (input : Bytes) (faulty : FaultyRun) (script : List ScriptLine) (a b : Outside) (code : ℕ) → IsWhole run faulty a b code → faulty.after.protected.beyond ≡ None
+stops_at_flips : (run : Run) (image : Program) (input : Bytes) (faulty : FaultyRun) (script : List ScriptLine) (a b : Outside) (code : ℕ) → IsWholeRun run faulty a b code → faulty.after.protected.beyond ≡ None
     → SecondWay input (flat_start image) script run.budget faulty.ending faulty.after → StopsAtFlips run image input faulty script a b code
 stops_at_flips run image input faulty script a b code w none k = record {
   n = faulty.after.steps;
@@ -110,14 +82,14 @@ stops_at_flips run image input faulty script a b code w none k = record {
   use_kind = k.use_kind;
   status = w.status ∙ ap (λ (e : Ending). status_of e.stop) k.consumed;
   early = k.early;
-  written = subst (λ (l : List Action). Performs a b (reads_of run ++ l)) (results_with faulty _ _ _ k.console k.consumed k.hart none) w.written;
+  written = subst (λ (l : List HostAction). Performs a b (reads_of run ++ l)) (results_with faulty _ _ _ k.console k.consumed k.hart none) w.written;
   hart = k.hart;
   goes_on = k.goes_on;
   asks = k.asks;
   flipped_twice = k.flipped_twice;
 }
 
-keeps_machine : (run : Run) (image : Program) (lines : List ScriptLine) (input : Bytes) (a b : Outside) (code : ℕ) → IsWhole run (faulty_run image (settings_of run) input lines) a b code
+keeps_machine : (run : Run) (image : Program) (lines : List ScriptLine) (input : Bytes) (a b : Outside) (code : ℕ) → IsWholeRun run (faulty_run image (settings_of run) input lines) a b code
     → KeepsToFlatRun image (settings_of run) input lines → KeepsToFlatMachine run image input lines (faulty_run image (settings_of run) input lines) a b code
 keeps_machine run image lines input a b code w k = record {
   script = k.script;
@@ -151,7 +123,7 @@ same_accepted files run image other lines more input text k h keeps =
 -- ---- the run of what was read
 
 pub run_follows : (files : Option (List File)) (run : Run) (settings : Settings) (image : Program) (script : List ScriptLine) (input : Bytes) (a b c : Outside) (code : ℕ) → settings ≡ settings_of run
-    → IfSome files (λ fs. IsReadAs fs run image script input) → Performs a b (reads_of run)
+    → IfSome files (λ fs. AreReadInputs fs run image script input) → Performs a b (reads_of run)
     → ((lines : List ScriptLine) → InRisingSteps lines script → Follows b c (results_of (faulty_run image settings input lines)) code)
     → IfSome files (λ fs. Follows a c (carried_out (plan_of (Some run)) fs) code)
 run_follows None run settings image script input a b c code e k h f = tt
@@ -161,7 +133,7 @@ run_follows (Some fs) run settings image script input a b c code e k h f =
     (subst (λ (s : Settings). Follows b c (results_of (faulty_run image s input k.lines)) code) e (f k.lines k.rising)))
 
 pub run_headline : (files : Option (List File)) (run : Run) (settings : Settings) (image : Program) (script : List ScriptLine) (input : Bytes) (a b : Outside) (code : ℕ) → settings ≡ settings_of run
-    → IfSome files (λ fs. IsReadAs fs run image script input) → IfSome files (λ fs. Follows a b (carried_out (plan_of (Some run)) fs) code)
+    → IfSome files (λ fs. AreReadInputs fs run image script input) → IfSome files (λ fs. Follows a b (carried_out (plan_of (Some run)) fs) code)
     → ((lines : List ScriptLine) → InRisingSteps lines script → code ≢ 4 → KeepsToFlatRun image settings input lines) → IfSome files (λ fs. Headline fs run a b code)
 run_headline None run settings image script input a b code e k f keeps = tt
 run_headline (Some fs) run settings image script input a b code e k f keeps = λ other more text h no3 no4.

@@ -1,5 +1,4 @@
 pub mod Registers
-pub mod PerformsLemmas
 pub mod FollowsLemmas
 pub mod EndsLemmas
 pub mod RunsLemmas

@@ -1,5 +1,5 @@
 -- Registers, one after the other.
-use Rattle.std.proofs.Common.{◌≡◌, ℕ, zero, suc, ◌+◌, [], ◌++◌, refl, sym, ◌∙◌, ap, add-one, append-nil, append_assoc}
+use Rattle.std.proofs.Common.{◌≡◌, ℕ, ◌+◌, ◌++◌, refl, sym, ◌∙◌, ap, add-one, append-nil, append_assoc}
 use Rattle.rv64_hart.specs.State.{ArchitecturalState, register}
 use Rattle.ras_host.specs.Told.{Bytes}
 use Rattle.ras_cli.specs.Report.{register_text, registers_to}

@@ -1,52 +1,36 @@
 -- Runs under the lines of a script, in any order that keeps those of each step.
-use Rattle.std.proofs.Common.{◌≡◌, ℕ, suc, zero, List, [], ◌∷◌, Option, None, Some, refl, sym, ◌∙◌, ap, subst}
+use Rattle.std.proofs.Common.{◌≡◌, ℕ, List, [], ◌∷◌, Option, None, Some, refl, sym, ◌∙◌, ap, subst}
 use Rattle.std.specs.Prelude.{◌⊎◌}
 use Rattle.elf_load.specs.Program.{Program}
-use Rattle.mem_stack.specs.Stack.{stack_meaning, stack_flips}
-use Rattle.fault_script.specs.Steps.{at_step, InRisingSteps}
+use Rattle.fault_script.specs.Steps.{InRisingSteps}
 use Rattle.fault_script.specs.declared.lines.ScriptLine.{ScriptLine}
 use Rattle.ras_host.specs.Told.{Bytes, Outside, Out, Err}
 use Rattle.rv64_hart.specs.State.{ArchitecturalState}
 use Rattle.ras_machine.specs.Flat.{flat_start, flat_run}
-use Rattle.ras_machine.specs.Machine.{StackState, StackMachine, machine_made, machine_left, machine_run, stack_move, stack_run, moved, hart_step, acts_done, event_counted}
-use Rattle.ras_machine.specs.Runs.{Move, Run, ended_or}
+use Rattle.ras_machine.specs.Machine.{StackState, StackMachine, machine_made, machine_left}
 use Rattle.ras_machine.specs.Since.{FlipsEachOnce}
 use Rattle.ras_machine.specs.TwoRuns.{FirstWay, SecondWay, EndsEitherWay}
 use Rattle.ras_machine.specs.declared.ending.Ending.{Ending}
 use Rattle.ras_machine.specs.declared.settings.Settings.{Settings}
+use Rattle.ras_machine.proofs.Machines.{same_lines_run}
 use Rattle.ras_cli.specs.Runs.{FaultyRun, faulty_run, flat_run_of, KeepsToFlatRun}
 use Rattle.ras_cli.specs.Plan.{Planned, status_of, report_in, results_of}
 use Rattle.ras_cli.specs.Report.{report_of}
 use Rattle.ras_cli.specs.Follows.{Follows}
 
--- a step sees only the lines of its step
-move_same : (input : Bytes) (lines read : List ScriptLine) (s : StackState) → at_step s.steps lines ≡ at_step s.steps read → stack_move input lines s ≡ stack_move input read s
-move_same input lines read s h =
-    ap (λ (now : List ScriptLine). let struck = record s { protected = acts_done stack_flips event_counted s.steps now s.protected } in
-    moved struck (hart_step stack_meaning event_counted input struck)) h
-
-run_same : (input : Bytes) (lines read : List ScriptLine) → ((step : ℕ) → at_step step lines ≡ at_step step read) → (left : ℕ) (s : StackState)
-    → stack_run input lines left s ≡ stack_run input read left s
-unfolding machine_run
-run_same input lines read h zero s = refl
-run_same input lines read h (suc left) s =
-    let move = stack_move input lines s in
-    ap (λ (r : Run StackState). ended_or move.ending move.after r) (run_same input lines read h left move.after)
-    ∙ ap (λ (m : Move StackState). ended_or m.ending m.after (stack_run input read left m.after)) (move_same input lines read s (h s.steps))
-
 -- the run is that under the lines as they were read
 pub faulty_same : (image : Program) (settings : Settings) (input : Bytes) (read script : List ScriptLine) → InRisingSteps read script
     → faulty_run image settings input script ≡ faulty_run image settings input read
-faulty_same image settings input read script h = run_same input script read h.same _ _
+faulty_same image settings input read script h = same_lines_run input script read h.same _ _
 
 -- what the run of a machine shows of the run under the lines as they were read
-pub record Shows (image : Program) (settings : Settings) (input : Bytes) (script : List ScriptLine) (ending : Ending) (s : StackState) : Type 0 where
+pub record ShowsRun (image : Program) (settings : Settings) (input : Bytes) (script : List ScriptLine) (ending : Ending) (s : StackState) : Type 0 where
   pub ways : s.protected.beyond ≡ None → EndsEitherWay input (flat_start image) script settings.budget ending s
   pub clear : FlipsEachOnce script → s.protected.beyond ≡ None
   pub first_way : FlipsEachOnce script → FirstWay (flat_run input settings.budget 0 (flat_start image)) ending s
 
 keeps_shown : (image : Program) (settings : Settings) (input : Bytes) (script lines : List ScriptLine) → InRisingSteps lines script
-    → (let run = faulty_run image settings input script in Shows image settings input script run.ending run.after) → KeepsToFlatRun image settings input lines
+    → (let run = faulty_run image settings input script in ShowsRun image settings input script run.ending run.after) → KeepsToFlatRun image settings input lines
 keeps_shown image settings input script lines rising it =
     let same = faulty_same image settings input lines script rising in
     record {
@@ -95,14 +79,14 @@ pub keeps_run : (image : Program) (settings : Settings) (input : Bytes) (script 
 keeps_run image settings input script lines before after ending rising made left ended ways clear first =
     let clean : before.state.protected.beyond ≡ None = ap (λ (m : StackMachine). m.state.protected.beyond) made in
     let budget : before.settings.budget ≡ settings.budget = ap (λ (m : StackMachine). m.settings.budget) made in
-    let it : Shows image settings input script ending after.state = record {
+    let it : ShowsRun image settings input script ending after.state = record {
       ways = subst (λ (n : ℕ). after.state.protected.beyond ≡ None → EndsEitherWay input (flat_start image) script n ending after.state) budget ways;
       clear = clear clean;
       first_way = subst (λ (n : ℕ). FlipsEachOnce script → FirstWay (flat_run input n 0 (flat_start image)) ending after.state) budget (first clean);
     } in
     keeps_shown image settings input script lines rising
-    (subst (λ (e : Ending). Shows image settings input script e (faulty_run image settings input script).after) (run_ending image settings input script before after ending made left ended)
-    (subst (λ (s : StackState). Shows image settings input script ending s) (run_state image settings input script before after made left) it))
+    (subst (λ (e : Ending). ShowsRun image settings input script e (faulty_run image settings input script).after) (run_ending image settings input script before after ending made left ended)
+    (subst (λ (s : StackState). ShowsRun image settings input script ending s) (run_state image settings input script before after made left) it))
 
 -- what a run under an accepted script comes to
 pub results_are : (image : Program) (settings : Settings) (input : Bytes) (script lines : List ScriptLine) (console report : Bytes) (status : ℕ) (a b : Outside) (code : ℕ)

@@ -1,11 +1,11 @@
 -- How a call of the program keeps to its plan.
 use Rattle.std.specs.Prelude.{◌≡◌, ◌≢◌, ℕ, ◌≤◌, List, [], ◌∷◌, ◌++◌, take, ◌⊎◌}
 use Rattle.ras_host.specs.Causes.{Rose}
-use Rattle.ras_host.specs.Told.{Bytes, Outside, Performs, Call, calls_of, Action, Read, Create, MissCreate, Out, Err}
+use Rattle.ras_host.specs.Told.{Bytes, Outside, Performs, HostCall, calls_of, HostAction, Read, Create, MissCreate, Out, Err}
 use Rattle.ras_cli.specs.Plan.{Planned}
 
 -- the action failed: it did a part of what it was to do
-abbrev pub IsFailed : Action → List Action → Type 0
+abbrev pub IsFailed : HostAction → List HostAction → Type 0
 IsFailed (Read name limit) done = done ≡ Read name limit ∷ []
 IsFailed (Create name bytes) done = (done ≡ MissCreate name ∷ []) ⊎ ((n : ℕ) × (done ≡ Create name (take n bytes) ∷ []))
 IsFailed (MissCreate name) done = done ≡ MissCreate name ∷ []
@@ -13,23 +13,23 @@ IsFailed (Out bytes) done = (n : ℕ) × (done ≡ Out (take n bytes) ∷ [])
 IsFailed (Err bytes) done = (n : ℕ) × (done ≡ Err (take n bytes) ∷ [])
 
 -- the actions were done up to one, and that failed
-abbrev pub IsCut : List Action → List Action → Type 0
+abbrev pub IsCut : List HostAction → List HostAction → Type 0
 IsCut [] done = ⊥
-IsCut (action ∷ actions) done = IsFailed action done ⊎ ((rest : List Action) × (done ≡ action ∷ rest) × IsCut actions rest)
+IsCut (action ∷ actions) done = IsFailed action done ⊎ ((rest : List HostAction) × (done ≡ action ∷ rest) × IsCut actions rest)
 
 -- the action reads a file
-abbrev pub IsRead : Action → Type 0
+abbrev pub IsRead : HostAction → Type 0
 IsRead (Read name limit) = Unit {0}
 IsRead _ = ⊥
 
 -- all of the actions do
-abbrev pub AreReads : List Action → Type 0
+abbrev pub AreReads : List HostAction → Type 0
 AreReads [] = Unit {0}
 AreReads (action ∷ actions) = IsRead action × AreReads actions
 
 -- the first of the actions and nothing else were done, all of them reads
-pub record IsStopped (actions done : List Action) : Type 0 where
-  pub rest : List Action
+pub record IsStopped (actions done : List HostAction) : Type 0 where
+  pub rest : List HostAction
   pub front : actions ≡ done ++ rest
   pub reads : AreReads done
 
@@ -38,25 +38,25 @@ pub record IsStopped (actions done : List Action) : Type 0 where
 pub record Follows (before after : Outside) (plan : Planned) (code : ℕ) : Type 0 where
   pub status : code ≢ 3 → code ≢ 4 → code ≡ plan.code
   pub whole : code ≢ 3 → code ≢ 4 → Performs before after plan.actions
-  pub cut : code ≡ 3 → (done : List Action) × IsCut plan.actions done × Performs before after done
-  pub stopped : code ≡ 4 → (after ≡ before) ⊎ ((done : List Action) × IsStopped plan.actions done × Performs before after done)
+  pub cut : code ≡ 3 → (done : List HostAction) × IsCut plan.actions done × Performs before after done
+  pub stopped : code ≡ 4 → (after ≡ before) ⊎ ((done : List HostAction) × IsStopped plan.actions done × Performs before after done)
 
 -- the calls of some actions are the first of the plan's
-pub record IsFront (plan : Planned) (done : List Action) : Type 0 where
-  pub rest : List Call
+pub record IsFront (plan : Planned) (done : List HostAction) : Type 0 where
+  pub rest : List HostCall
   pub front : calls_of plan.actions ≡ calls_of done ++ rest
 
 -- the calls that were made are the first of the plan's; maybe none was
 abbrev pub MakesFront : Outside → Outside → Planned → Type 0
-MakesFront before after plan = (after ≡ before) ⊎ ((done : List Action) × IsFront plan done × Performs before after done)
+MakesFront before after plan = (after ≡ before) ⊎ ((done : List HostAction) × IsFront plan done × Performs before after done)
 
 -- nothing but reads was done
 abbrev pub OnlyReads : Outside → Outside → Type 0
-OnlyReads before after = (after ≡ before) ⊎ ((done : List Action) × AreReads done × Performs before after done)
+OnlyReads before after = (after ≡ before) ⊎ ((done : List HostAction) × AreReads done × Performs before after done)
 
 -- reads were made, and then bytes were written to standard error, by one call
 abbrev pub WritesLine : Outside → Outside → Type 0
-WritesLine before after = (reads : List Action) × (line : Bytes) × AreReads reads × Performs before after (reads ++ Err line ∷ [])
+WritesLine before after = (reads : List HostAction) × (line : Bytes) × AreReads reads × Performs before after (reads ++ Err line ∷ [])
 
 -- How a run ends over any host that counts its faults, before and now: with 2 one line was written, with 4 nothing, and
 -- with 3 a fault was counted.

@@ -1,5 +1,5 @@
 -- The headline: a run under faults ends as the flat machine's does, or stops at a word that was flipped twice.
-use Rattle.std.specs.Prelude.{◌≡◌, ◌≢◌, ℕ, ◌≤◌, ◌<◌, ◌⊎◌, List, [], ◌∷◌, ◌++◌, length, Option, Some, None}
+use Rattle.std.specs.Prelude.{◌≡◌, ◌≢◌, ℕ, ◌≤◌, ◌<◌, ◌⊎◌, List, [], ◌∷◌, ◌++◌, length, None}
 use Rattle.elf_load.specs.Program.{Program}
 use Rattle.fault_script.specs.declared.lines.ScriptLine.{ScriptLine}
 use Rattle.fault_script.specs.Steps.{InRisingSteps}
@@ -21,7 +21,7 @@ abbrev pub events_in : FaultyRun → ℕ
 events_in run = run.after.protected.log
 
 -- every output of a run is whole: its console and report were written, and its status says how it stopped
-pub record IsWhole (run : Run) (faulty : FaultyRun) (before after : Outside) (code : ℕ) : Type 0 where
+pub record IsWholeRun (run : Run) (faulty : FaultyRun) (before after : Outside) (code : ℕ) : Type 0 where
   pub either : (code ≡ 0) ⊎ (code ≡ 5)
   pub status : code ≡ status_of faulty.ending.stop
   pub written : Performs before after (reads_of run ++ (results_of faulty).actions)
@@ -31,7 +31,7 @@ pub record IsWhole (run : Run) (faulty : FaultyRun) (before after : Outside) (co
 abbrev pub Completes : List File → Run → Outside → Outside → ℕ → Type 0
 Completes files run before after code =
     (image : Program) (lines : List ScriptLine) (input : Bytes) → IsAccepted files run image lines input → code ≢ 3 → code ≢ 4
-    → IsWhole run (faulty_run image (settings_of run) input lines) before after code
+    → IsWholeRun run (faulty_run image (settings_of run) input lines) before after code
 
 -- The first way: the console and the ending that were written are the flat machine's, the status is 0, and the registers
 -- are the flat machine's too.

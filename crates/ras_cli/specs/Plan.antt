@@ -8,12 +8,13 @@ use Rattle.fault_script.specs.Script.{lines_in}
 use Rattle.fault_script.specs.declared.lines.ScriptLine.{ScriptLine}
 use Rattle.fault_script.specs.declared.lines.ScriptError.{ScriptError}
 use Rattle.fault_script.specs.declared.lines.ScriptError.TheVariants as errors
-use Rattle.ras_host.specs.Told.{Bytes, Action, Read, Out, Err, File, bytes_of}
+use Rattle.ras_host.specs.Told.{Bytes, HostAction, Read, Out, Err, File, bytes_of}
 use Rattle.ras_machine.specs.Settings.{ram_words}
 use Rattle.ras_machine.specs.declared.ending.Stop.{Stop}
 use Rattle.ras_machine.specs.declared.ending.Stop.TheVariants.{Shutdown, Reboot, Budget, ConsoleFull, Consumed}
 use Rattle.ras_machine.specs.declared.settings.Settings.{Settings}
 use Rattle.ras_words.specs.Run.{Run, run_of}
+use Rattle.ras_words.specs.declared.limits.TheConstants.{IMAGE_LIMIT, SCRIPT_LIMIT, INPUT_LIMIT}
 use Rattle.ras_cli.specs.Refusals.{usage, image_too_long, script_too_long, input_too_long, image_refused, script_refused}
 use Rattle.ras_cli.specs.Report.{report_of}
 use Rattle.ras_cli.specs.Runs.{FaultyRun, faulty_run}
@@ -23,7 +24,7 @@ use Rattle.ras_cli.specs.Runs.{FaultyRun, faulty_run}
 -- the host calls of a plan in which none fails, and its status
 pub record Planned : Type 0 where
   pub code : ℕ
-  pub actions : List Action
+  pub actions : List HostAction
 
 -- a plan: files that are read in turn, each within a limit, and then the status and the writes
 pub data Plan : Type 0 where
@@ -31,7 +32,7 @@ pub data Plan : Type 0 where
   Reading : (name : Bytes) → (limit : ℕ) → (longer : Plan) → (whole : Bytes → Plan) → Plan
 
 -- some calls, and then the rest
-abbrev pub calls_then : List Action → Planned → Planned
+abbrev pub calls_then : List HostAction → Planned → Planned
 calls_then actions rest = record { code = rest.code; actions = actions ++ rest.actions }
 
 -- what a plan comes to over these files
@@ -56,22 +57,10 @@ abbrev pub settings_of : Run → Settings
 settings_of run = record { ram_mib = run.ram_mib; poll = 0; patrol = 0; budget = run.budget }
 
 -- how many words of 8 bytes its RAM has
-abbrev pub words_of : Run → ℕ
-words_of run = ram_words (settings_of run)
+abbrev pub run_ram_words : Run → ℕ
+run_ram_words run = ram_words (settings_of run)
 
 -- ---- what is read, in this order
-
--- the most bytes of an image
-abbrev pub image_limit : ℕ
-image_limit = 83886080
-
--- the most bytes of a script
-abbrev pub script_limit : ℕ
-script_limit = 4194304
-
--- the most bytes of an input
-abbrev pub input_limit : ℕ
-input_limit = 16777216
 
 -- an image that is accepted, or the line of its refusal; reading bytes never wants memory
 abbrev pub with_image : Result Program ElfRefused → (Program → Plan) → Plan
@@ -79,8 +68,9 @@ with_image (Ok image) next = next image
 with_image (Error refused.NoMemory) next = Finish (record { code = 4; actions = [] })
 with_image (Error refusal) next = Finish (line_written 2 (image_refused refusal))
 
+-- the image is read, and then what follows it
 abbrev pub reading_image : Run → (Program → Plan) → Plan
-reading_image run next = Reading run.image image_limit (Finish (line_written 2 image_too_long)) (λ bytes. with_image (image_of run.raw bytes (words_of run)) next)
+reading_image run next = Reading run.image IMAGE_LIMIT (Finish (line_written 2 image_too_long)) (λ bytes. with_image (image_of run.raw bytes (run_ram_words run)) next)
 
 -- the lines of a script that is accepted, or the line of its refusal; reading a text never wants memory
 abbrev pub with_lines : Result (List ScriptLine) ScriptError → (List ScriptLine → Plan) → Plan
@@ -88,11 +78,13 @@ with_lines (Ok lines) next = next lines
 with_lines (Error (errors.Refused line why)) next = Finish (line_written 2 (script_refused line why))
 with_lines (Error errors.NoMemory) next = Finish (record { code = 4; actions = [] })
 
+-- the script is read, where one is named, and then what follows its lines
 abbrev pub reading_script : Run → (List ScriptLine → Plan) → Plan
-reading_script run next = reading_named run.script script_limit (Finish (line_written 2 script_too_long)) (λ text. with_lines (lines_in (words_of run) text) next)
+reading_script run next = reading_named run.script SCRIPT_LIMIT (Finish (line_written 2 script_too_long)) (λ text. with_lines (lines_in (run_ram_words run) text) next)
 
+-- the input is read, where one is named, and then what follows it
 abbrev pub reading_input : Run → (Bytes → Plan) → Plan
-reading_input run next = reading_named run.input input_limit (Finish (line_written 2 input_too_long)) next
+reading_input run next = reading_named run.input INPUT_LIMIT (Finish (line_written 2 input_too_long)) next
 
 -- ---- what comes of it
 

@@ -6,22 +6,27 @@ use Rattle.elf_load.specs.declared.refusals.ElfRefused.{ElfRefused}
 use Rattle.elf_load.specs.declared.refusals.ElfRefused.TheVariants as refused
 use Rattle.fault_script.specs.declared.lines.Why.{Why}
 use Rattle.fault_script.specs.declared.lines.Why.TheVariants as why
+use Rattle.ras_words.specs.declared.limits.TheConstants.{IMAGE_LIMIT, SCRIPT_LIMIT, INPUT_LIMIT}
 
 -- words that ask for nothing
 abbrev pub usage : Bytes
 usage = codes "usage: ras run|compare IMAGE [options] | ras debug IMAGE COMMANDS [options] | ras read FILE | ras demo NUMBER\n"
 
+-- a file that is longer than its limit
+abbrev pub too_long : Bytes → ℕ → Bytes
+too_long what limit = codes "ras: " ++ what ++ codes " too long: limit " ++ decimal limit ++ codes "\n"
+
 -- an image that is longer than its limit
 abbrev pub image_too_long : Bytes
-image_too_long = codes "ras: image too long: limit 83886080\n"
+image_too_long = too_long (codes "image") IMAGE_LIMIT
 
 -- a script that is longer than its limit
 abbrev pub script_too_long : Bytes
-script_too_long = codes "ras: script too long: limit 4194304\n"
+script_too_long = too_long (codes "script") SCRIPT_LIMIT
 
 -- an input that is longer than its limit
 abbrev pub input_too_long : Bytes
-input_too_long = codes "ras: input too long: limit 16777216\n"
+input_too_long = too_long (codes "input") INPUT_LIMIT
 
 -- a rule of one program header, with its number
 abbrev pub segment_text : Bytes → ℕ → Bytes

@@ -1,6 +1,7 @@
 -- The report of a run: its ending, and the hart's registers.
-use Rattle.std.specs.Prelude.{ℕ, zero, suc, ◌+◌, ◌*◌, ◌==◌, if◌then◌else◌, [], ◌++◌, Option, Some, None, codes}
+use Rattle.std.specs.Prelude.{ℕ, zero, suc, ◌==◌, if◌then◌else◌, [], ◌++◌, Option, Some, None, codes}
 use Rattle.std.specs.Fmt.{decimal}
+use Rattle.ras_bits.specs.Map.{word_address}
 use Rattle.ras_host.specs.Told.{Bytes}
 use Rattle.ras_numbers.specs.Numbers.{address_text}
 use Rattle.poison_mem.specs.declared.cell.UseKind.{UseKind}
@@ -17,10 +18,6 @@ use_text Walk = codes "walk"
 use_text Load = codes "load"
 use_text Amo = codes "amo"
 use_text Sbi = codes "sbi"
-
--- the address of a word of RAM
-abbrev pub word_address : ℕ → ℕ
-word_address w = 0x8000_0000 + 8 * w
 
 -- why a run stopped
 abbrev pub stop_text : Stop → Bytes

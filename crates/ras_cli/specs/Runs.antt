@@ -1,19 +1,19 @@
 -- The run of a program under the faults of a script, and what it has in common with the flat machine's.
-use Rattle.std.specs.Prelude.{◌≡◌, ℕ, ◌-◌, List, [], None, ◌⊎◌}
+use Rattle.std.specs.Prelude.{◌≡◌, ◌-◌, List, None, ◌⊎◌}
 use Rattle.elf_load.specs.Program.{Program}
 use Rattle.fault_script.specs.Steps.{InRisingSteps}
 use Rattle.fault_script.specs.declared.lines.ScriptLine.{ScriptLine}
 use Rattle.ras_host.specs.Told.{Bytes}
 use Rattle.ras_machine.specs.Flat.{FlatRun, flat_start, flat_run}
 use Rattle.ras_machine.specs.Machine.{StackState, machine_made, stack_run}
-use Rattle.ras_machine.specs.Runs.{Run}
+use Rattle.ras_machine.specs.Runs.{RunResult}
 use Rattle.ras_machine.specs.Since.{FlipsEachOnce}
 use Rattle.ras_machine.specs.TwoRuns.{FirstWay, SecondWay}
 use Rattle.ras_machine.specs.declared.settings.Settings.{Settings}
 
 -- a run of the machine whose memory takes faults
 abbrev pub FaultyRun : Type 0
-FaultyRun = Run StackState
+FaultyRun = RunResult StackState
 
 -- the run of that machine under the lines of a script, with this input
 abbrev pub faulty_run : Program → Settings → Bytes → List ScriptLine → FaultyRun

@@ -1,6 +1,6 @@
 //! Guests that need the whole hart, over a host in memory, with bytes worked out by hand.
 
-use crate::top::ras_main;
+use crate::helpers::{called, host_of, image_of};
 use ras_bits::NoMemory;
 use ras_host::MemoryHost;
 use std::alloc::Global;
@@ -30,51 +30,27 @@ const REWRITE: [u32; 12] = [
     0x00000073, 0x00000000, 0x04800513, 0x00100893,
 ];
 
-/// The bytes of a raw image: words at its start, and a word of 64 bits behind zeros at each place.
-fn image_of(alloc: Global, words: &[u32], far: &[(usize, u64)]) -> Result<Vec<u8>, NoMemory> {
-    let mut image = Vec::new(alloc);
-    for word in words {
-        image.extend_from_slice(&word.to_le_bytes())?;
-    }
-    for (at, word) in far {
-        for _ in image.len()..*at {
+/// Asks for a system reset of type 1: li a0,1; li a1,0; li a6,0; lui a7,0x53525; addi a7,a7,0x354; ecall
+const REBOOT: [u32; 6] = [
+    0x00100513, 0x00000593, 0x00000813, 0x535258B7, 0x35488893, 0x00000073,
+];
+
+/// Writes 4,096 bytes from 0x80000004 on by the debug console extension, again and again: lui a0,1; auipc a1,0; li a2,0;
+/// lui a7,0x44424; addi a7,a7,0x34E; ecall; j -24
+const FILL: [u32; 7] = [
+    0x00001537, 0x00000597, 0x00000613, 0x444248B7, 0x34E88893, 0x00000073, 0xFE9FF06F,
+];
+
+/// The bytes of a raw image: words at its start, and words of 64 bits behind zeros at offsets.
+fn image_with(alloc: Global, words: &[u32], far: &[(usize, u64)]) -> Result<Vec<u8>, NoMemory> {
+    let mut image = image_of(alloc, words)?;
+    for (offset, word) in far {
+        for _ in image.len()..*offset {
             image.push(0)?;
         }
         image.extend_from_slice(&word.to_le_bytes())?;
     }
     Ok(image)
-}
-
-/// A host with an image, a script and an input, and the status of `run` with these further words.
-fn run(
-    alloc: Global,
-    image: &[u8],
-    script: &str,
-    input: &[u8],
-    budget: &str,
-) -> Result<(u8, MemoryHost), NoMemory> {
-    let mut host = MemoryHost::make(alloc, 4096)?;
-    host.add_file("image", image)?;
-    host.add_file("script", script.as_bytes())?;
-    host.add_file("input", input)?;
-    let mut words = Vec::new(alloc);
-    for word in [
-        "run",
-        "image",
-        "--raw",
-        "--script",
-        "script",
-        "--input",
-        "input",
-        "--budget",
-        budget,
-        "--ram-mib",
-        "1",
-    ] {
-        words.push(String::from_str(alloc, word)?)?;
-    }
-    let status = ras_main(alloc, words.as_slice(), &mut host);
-    Ok((status.code, host))
 }
 
 #[test]
@@ -92,7 +68,7 @@ fn runs_guests(rt: HostRuntime) -> Result<(), Fail> {
         u8,
         &[u8],
         &str,
-    ); 10] = [
+    ); 11] = [
         (
             "a byte of the input",
             &ECHO,
@@ -147,6 +123,17 @@ fn runs_guests(rt: HostRuntime) -> Result<(), Fail> {
             5,
             b"",
             "stop=consumed:0x0000000080000048:sbi:0x0000000080000014 steps=5 events=1 beyond=none\nregs pc=0x0000000080000014 x10=0x0000000000000010 x11=0x0000000080000040 x17=0x000000004442434e\n",
+        ),
+        (
+            "a reboot",
+            &REBOOT,
+            &[],
+            "",
+            b"",
+            "100",
+            0,
+            b"",
+            "stop=reboot:1 steps=6 events=0 beyond=none\nregs pc=0x0000000080000018 x10=0x0000000000000001 x17=0x0000000053525354\n",
         ),
         (
             "a page of one gigabyte",
@@ -205,11 +192,34 @@ fn runs_guests(rt: HostRuntime) -> Result<(), Fail> {
         ),
     ];
     for (name, words, far, script, input, budget, code, out, err) in rows {
-        let image = image_of(alloc, words, far)?;
-        let (status, host) = run(alloc, image.as_slice(), script, input, budget)?;
-        assert_eq!(rt; status, code, "{name}");
+        let image = image_with(alloc, words, far)?;
+        let files: [(&str, &[u8]); 3] = [
+            ("image", image.as_slice()),
+            ("script", script.as_bytes()),
+            ("input", input),
+        ];
+        let mut host = host_of(alloc, &files)?;
+        let line = format!(in alloc;
+            "run image --raw --script script --input input --budget {budget} --ram-mib 1"
+        )?;
+        assert_eq!(rt; called(alloc, line.as_str(), &mut host)?, code, "{name}");
         assert!(rt; host.written_out() == out, "{name}");
         assert!(rt; host.written_err() == err.as_bytes(), "{name}");
     }
+    Ok(())
+}
+
+// Each write takes seven steps, and 256 of them fill the console.
+#[test]
+fn stops_where_the_console_is_full(rt: HostRuntime) -> Result<(), Fail> {
+    let alloc = rt.alloc();
+    let mut host = MemoryHost::make(alloc, 1_050_000)?;
+    host.add_file("image", image_of(alloc, &FILL)?.as_slice())?;
+    assert_eq!(rt; called(alloc, "run image --raw --ram-mib 1", &mut host)?, 0);
+    assert_eq!(rt; host.written_out().len(), 1_048_576);
+    assert!(rt;
+        host.written_err()
+            == b"stop=console-full steps=1797 events=0 beyond=none\nregs pc=0x0000000080000014 x10=0x0000000000001000 x11=0x0000000080000004 x17=0x000000004442434e\n".as_slice()
+    );
     Ok(())
 }

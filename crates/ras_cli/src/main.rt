@@ -7,6 +7,8 @@
 mod file_tests;
 #[cfg(test)]
 mod guest_tests;
+#[cfg(test)]
+mod helpers;
 mod inputs;
 mod machine;
 mod refusals;

@@ -2,7 +2,8 @@
 
 ghost use Rattle.std.specs.Prelude.{◌≡◌, ◌+◌, ◌≤◌, ◌++◌, length};
 ghost use Rattle.arrayvec.specs.ArrayVec.{array_vec_len};
-ghost use Rattle.ras_cli.specs.Refusals.{segment_text, rule_text, image_refused, why_text, script_refused};
+ghost use Rattle.ras_cli.specs.declared.text.TheConstants.{TEXT_ROOM};
+ghost use Rattle.ras_cli.specs.Refusals.{too_long, segment_text, rule_text, image_refused, why_text, script_refused};
 
 use crate::text::{Text, push_number, push_text};
 use elf_load::ElfRefused;
@@ -12,18 +13,23 @@ use fault_script::Why;
 pub const USAGE: &[u8] =
     b"usage: ras run|compare IMAGE [options] | ras debug IMAGE COMMANDS [options] | ras read FILE | ras demo NUMBER\n";
 
-/// The line for an image that is longer than its limit.
-pub const IMAGE_TOO_LONG: &[u8] = b"ras: image too long: limit 83886080\n";
-
-/// The line for a script that is longer than its limit.
-pub const SCRIPT_TOO_LONG: &[u8] = b"ras: script too long: limit 4194304\n";
-
-/// The line for an input that is longer than its limit.
-pub const INPUT_TOO_LONG: &[u8] = b"ras: input too long: limit 16777216\n";
+/// The line for a file that is longer than its limit, with what it is.
+pub fn too_long(what: &[u8], limit: u64) -> Text
+    requires { length what.now ≤ 100 }
+    ensures { result.items ≡ too_long what.now limit }
+{
+    let mut text = Text::new();
+    push_text(&mut text, b"ras: ");
+    push_text(&mut text, what);
+    push_text(&mut text, b" too long: limit ");
+    push_number(&mut text, limit);
+    push_text(&mut text, b"\n");
+    text
+}
 
 // Appends a rule of one program header, with its number.
 fn push_segment(text: &mut Text, rule: &[u8], k: u16)
-    requires { array_vec_len text.old + (length rule.now + 29) ≤ 2048 }
+    requires { array_vec_len text.old + (length rule.now + 29) ≤ TEXT_ROOM }
     ensures items { text.new.items ≡ text.old.items ++ segment_text rule.now k }
     ensures len { array_vec_len text.new ≤ array_vec_len text.old + (length rule.now + 29) }
 {
@@ -34,7 +40,7 @@ fn push_segment(text: &mut Text, rule: &[u8], k: u16)
 
 // Appends which rule an image breaks.
 fn push_rule(text: &mut Text, refusal: ElfRefused)
-    requires { array_vec_len text.old + 40 ≤ 2048 }
+    requires { array_vec_len text.old + 40 ≤ TEXT_ROOM }
     ensures items { text.new.items ≡ text.old.items ++ rule_text refusal }
     ensures len { array_vec_len text.new ≤ array_vec_len text.old + 40 }
 {

@@ -3,16 +3,15 @@
 ghost use Rattle.std.specs.Prelude.{◌≡◌, ◌+◌, ◌<◌, ◌≤◌, ◌++◌, length};
 ghost use Rattle.arrayvec.specs.ArrayVec.{array_vec_len};
 ghost use Rattle.rv64_hart.specs.State.{register};
+ghost use Rattle.ras_cli.specs.declared.text.TheConstants.{TEXT_ROOM};
 ghost use Rattle.ras_cli.specs.Report.{stop_text, use_text, beyond_text, ending_line, register_text, registers_to, regs_line, report_of};
 
 use crate::text::{Text, push_number, push_text};
 use poison_mem::UseKind;
+use ras_bits::word_address;
 use ras_machine::{Ending, Stop};
 use ras_numbers::address;
 use rv64_hart::Hart;
-
-// The first address of RAM.
-const RAM_START: u64 = 0x8000_0000;
 
 // What a poisoned word was asked for.
 fn use_text(use_kind: UseKind) -> &'static [u8]
@@ -30,7 +29,7 @@ fn use_text(use_kind: UseKind) -> &'static [u8]
 
 // Appends why a run stopped.
 fn push_stop(text: &mut Text, stop: Stop)
-    requires { array_vec_len text.old + 60 ≤ 2048 }
+    requires { array_vec_len text.old + 60 ≤ TEXT_ROOM }
     ensures items { text.new.items ≡ text.old.items ++ stop_text stop }
     ensures len { array_vec_len text.new ≤ array_vec_len text.old + 60 }
 {
@@ -47,7 +46,7 @@ fn push_stop(text: &mut Text, stop: Stop)
         Stop::ConsoleFull => push_text(text, b"console-full"),
         Stop::Consumed { w, use_kind, pc } => {
             push_text(text, b"consumed:");
-            push_text(text, &address(RAM_START + 8 * u64::from(w)));
+            push_text(text, &address(word_address(w)));
             push_text(text, b":");
             push_text(text, use_text(use_kind));
             push_text(text, b":");
@@ -58,7 +57,7 @@ fn push_stop(text: &mut Text, stop: Stop)
 
 // Appends the step and the word of the first third flip, where there was one.
 fn push_beyond(text: &mut Text, beyond: Option<(u64, u32)>)
-    requires { array_vec_len text.old + 40 ≤ 2048 }
+    requires { array_vec_len text.old + 40 ≤ TEXT_ROOM }
     ensures items { text.new.items ≡ text.old.items ++ beyond_text beyond }
     ensures len { array_vec_len text.new ≤ array_vec_len text.old + 40 }
 {
@@ -66,7 +65,7 @@ fn push_beyond(text: &mut Text, beyond: Option<(u64, u32)>)
         Some((step, w)) => {
             push_number(text, step);
             push_text(text, b":");
-            push_text(text, &address(RAM_START + 8 * u64::from(w)));
+            push_text(text, &address(word_address(w)));
         }
         None => push_text(text, b"none"),
     }
@@ -74,7 +73,7 @@ fn push_beyond(text: &mut Text, beyond: Option<(u64, u32)>)
 
 // Appends the line of an ending.
 fn push_ending(text: &mut Text, ending: &Ending, events: u64, beyond: Option<(u64, u32)>)
-    requires { array_vec_len text.old + 169 ≤ 2048 }
+    requires { array_vec_len text.old + 169 ≤ TEXT_ROOM }
     ensures items { text.new.items ≡ text.old.items ++ ending_line ending.now events beyond }
     ensures len { array_vec_len text.new ≤ array_vec_len text.old + 169 }
 {
@@ -91,7 +90,7 @@ fn push_ending(text: &mut Text, ending: &Ending, events: u64, beyond: Option<(u6
 
 // Appends a register with its number, where it isn't 0.
 fn push_register(text: &mut Text, i: u8, value: u64)
-    requires { array_vec_len text.old + 41 ≤ 2048 }
+    requires { array_vec_len text.old + 41 ≤ TEXT_ROOM }
     ensures items { text.new.items ≡ text.old.items ++ register_text i value }
     ensures len { array_vec_len text.new ≤ array_vec_len text.old + 41 }
 {
@@ -106,7 +105,7 @@ fn push_register(text: &mut Text, i: u8, value: u64)
 // Appends the registers x1 to x31 that aren't 0, in rising order.
 #[tactic(auto, using(crate::proofs::Registers::registers_none))]
 fn push_registers(text: &mut Text, hart: &Hart)
-    requires { array_vec_len text.old + 1271 ≤ 2048 }
+    requires { array_vec_len text.old + 1271 ≤ TEXT_ROOM }
     ensures items { text.new.items ≡ text.old.items ++ registers_to hart.now 31 }
     ensures len { array_vec_len text.new ≤ array_vec_len text.old + 1271 }
 {
@@ -117,7 +116,7 @@ fn push_registers(text: &mut Text, hart: &Hart)
 
 // Appends the line of a hart.
 fn push_regs(text: &mut Text, hart: &Hart)
-    requires { array_vec_len text.old + 1298 ≤ 2048 }
+    requires { array_vec_len text.old + 1298 ≤ TEXT_ROOM }
     ensures { text.new.items ≡ text.old.items ++ regs_line hart.now }
 {
     push_text(text, b"regs pc=");

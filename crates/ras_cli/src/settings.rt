@@ -3,8 +3,9 @@
 ghost use Rattle.std.specs.Prelude.{◌≡◌, ◌≤◌};
 ghost use Rattle.ras_machine.specs.Settings.{IsInRange};
 ghost use Rattle.ras_words.specs.Texts.{run_in, IsInLimits};
-ghost use Rattle.ras_cli.specs.Plan.{settings_of, words_of};
+ghost use Rattle.ras_cli.specs.Plan.{settings_of, run_ram_words};
 
+use ras_bits::WORDS_PER_MIB;
 use ras_machine::Settings;
 use ras_words::RunWords;
 
@@ -23,9 +24,9 @@ pub fn settings_of(run: RunWords<'_>) -> Settings
 }
 
 /// How many words of 8 bytes the RAM of a run has.
-pub fn words_of(run: RunWords<'_>) -> u32
+pub fn run_ram_words(run: RunWords<'_>) -> u32
     requires { IsInLimits run }
-    ensures { result ≡ words_of (run_in run.entry) }
+    ensures { result ≡ run_ram_words (run_in run.entry) }
 {
-    131_072 * run.ram_mib as u32
+    WORDS_PER_MIB * run.ram_mib as u32
 }

@@ -1,8 +1,10 @@
 //! The top call over a host in memory, with bytes worked out by hand.
 
-use crate::top::ras_main;
+use crate::helpers::{called, host_of, image_of};
+use crate::refusals::too_long;
 use ras_bits::NoMemory;
 use ras_host::{MemoryHost, SteadyHost};
+use ras_words::{IMAGE_LIMIT, INPUT_LIMIT, SCRIPT_LIMIT};
 use std::alloc::Global;
 use std::test::Fail;
 
@@ -55,18 +57,9 @@ const SCRIPTS: [(&str, &str); 11] = [
     ("past", "flip 0 0x80000000 72"),
 ];
 
-// The bytes of a raw image.
-fn image_of(alloc: Global, words: &[u32]) -> Result<Vec<u8>, NoMemory> {
-    let mut image = Vec::new(alloc);
-    for word in words {
-        image.extend_from_slice(&word.to_le_bytes())?;
-    }
-    Ok(image)
-}
-
 // A host with the images and the scripts.
-fn host_of(alloc: Global) -> Result<MemoryHost, NoMemory> {
-    let mut host = MemoryHost::make(alloc, 4096)?;
+fn host_of_all(alloc: Global) -> Result<MemoryHost, NoMemory> {
+    let mut host = host_of(alloc, &[])?;
     for (name, words) in FILES {
         host.add_file(name, image_of(alloc, words)?.as_slice())?;
     }
@@ -76,32 +69,9 @@ fn host_of(alloc: Global) -> Result<MemoryHost, NoMemory> {
     Ok(host)
 }
 
-// The words of a line that has one blank between any two.
-fn words_of(alloc: Global, line: &str) -> Result<Vec<String>, NoMemory> {
-    let mut words = Vec::new(alloc);
-    for word in line.split(' ') {
-        words.push(String::from_str(alloc, word)?)?;
-    }
-    Ok(words)
-}
-
-// The status of a call, with what it wrote.
-fn called(alloc: Global, line: &str) -> Result<(u8, MemoryHost), NoMemory> {
-    let mut host = host_of(alloc)?;
-    let words = words_of(alloc, line)?;
-    let status = ras_main(alloc, words.as_slice(), &mut host);
-    Ok((status.code, host))
-}
-
 #[test]
 fn runs_images(rt: HostRuntime) -> Result<(), Fail> {
     for (line, code, out, err) in [
-        (
-            "run hello --raw --budget 100",
-            0,
-            "H",
-            "stop=shutdown:0 steps=5 events=0 beyond=none\nregs pc=0x0000000080000014 x17=0x0000000000000008\n",
-        ),
         (
             "run --budget=0x10 --script=empty --raw --ram-mib 1 -- hello",
             0,
@@ -178,10 +148,24 @@ fn runs_images(rt: HostRuntime) -> Result<(), Fail> {
         ("run hello --raw --script missing --ram-mib 1", 3, "", ""),
         ("run hello --raw --input missing --ram-mib 1", 3, "", ""),
     ] {
-        let (status, host) = called(rt.alloc(), line)?;
-        assert_eq!(rt; status, code, "{line}");
+        let mut host = host_of_all(rt.alloc())?;
+        assert_eq!(rt; called(rt.alloc(), line, &mut host)?, code, "{line}");
         assert!(rt; host.written_out() == out.as_bytes(), "{line}");
         assert!(rt; host.written_err().starts_with(err.as_bytes()), "{line}");
+    }
+    Ok(())
+}
+
+// The default of 16 MiB, and the most.
+#[test]
+fn runs_with_much_ram(rt: HostRuntime) -> Result<(), Fail> {
+    for line in [
+        "run hello --raw",
+        "run hello --raw --ram-mib 64 --budget 1000000000 --input empty --script empty",
+    ] {
+        let mut host = host_of_all(rt.alloc())?;
+        assert_eq!(rt; called(rt.alloc(), line, &mut host)?, 0, "{line}");
+        assert!(rt; host.written_out() == b"H".as_slice(), "{line}");
     }
     Ok(())
 }
@@ -191,9 +175,8 @@ fn runs_over_a_host_that_never_fails(rt: HostRuntime) -> Result<(), Fail> {
     let alloc = rt.alloc();
     let mut host = SteadyHost::make(alloc, 4096)?;
     host.add_file("hello", image_of(alloc, &HELLO)?.as_slice())?;
-    let words = words_of(alloc, "run hello --raw --budget 100")?;
-    let status = ras_main(alloc, words.as_slice(), &mut host);
-    assert_eq!(rt; status.code, 0);
+    let line = "run hello --raw --ram-mib 1";
+    assert_eq!(rt; called(alloc, line, &mut host)?, 0);
     assert!(rt; host.written_out() == b"H".as_slice());
     assert!(rt;
         host.written_err()
@@ -210,30 +193,30 @@ fn refuses(rt: HostRuntime) -> Result<(), Fail> {
         ("run hello --poll 1", 1, USAGE),
         ("run hello 100", 1, USAGE),
         ("compare hello", 1, USAGE),
-        ("run empty", 2, "ras: image refused: short\n"),
+        ("run empty --ram-mib 1", 2, "ras: image refused: short\n"),
         (
-            "run once --raw --script hello",
+            "run once --raw --script hello --ram-mib 1",
             2,
             "ras: script refused: line 1: bytes\n",
         ),
         (
-            "run hello --raw --script half",
+            "run hello --raw --script half --ram-mib 1",
             2,
             "ras: script refused: line 1: address\n",
         ),
         (
-            "run hello --raw --script past",
+            "run hello --raw --script past --ram-mib 1",
             2,
             "ras: script refused: line 1: bit\n",
         ),
         (
-            "run hello --raw --script wrong",
+            "run hello --raw --script wrong --ram-mib 1",
             2,
             "ras: script refused: line 2: word\n",
         ),
     ] {
-        let (status, host) = called(rt.alloc(), line)?;
-        assert_eq!(rt; status, code, "{line}");
+        let mut host = host_of_all(rt.alloc())?;
+        assert_eq!(rt; called(rt.alloc(), line, &mut host)?, code, "{line}");
         assert!(rt; host.written_out().is_empty(), "{line}");
         assert!(rt; host.written_err() == err.as_bytes(), "{line}");
     }
@@ -243,36 +226,51 @@ fn refuses(rt: HostRuntime) -> Result<(), Fail> {
 #[test]
 fn refuses_long_files(rt: HostRuntime) -> Result<(), Fail> {
     let alloc = rt.alloc();
-    for (line, len, err) in [
-        (
-            "run long",
-            83_886_081,
-            "ras: image too long: limit 83886080\n",
-        ),
+    for (line, length, err) in [
         (
             "run long --raw --ram-mib 1",
             1_048_577,
             "ras: image refused: outside segment 0\n",
         ),
         (
-            "run hello --raw --script long",
+            "run hello --raw --script long --ram-mib 1",
             4_194_305,
             "ras: script too long: limit 4194304\n",
         ),
-        (
-            "run hello --raw --input long",
-            16_777_217,
-            "ras: input too long: limit 16777216\n",
-        ),
     ] {
-        let mut host = host_of(alloc)?;
-        let long = vec![in alloc; 0u8; len]?;
+        let mut host = host_of_all(alloc)?;
+        let long = vec![in alloc; 0u8; length]?;
         host.add_file("long", long.as_slice())?;
-        let words = words_of(alloc, line)?;
-        let status = ras_main(alloc, words.as_slice(), &mut host);
-        assert_eq!(rt; status.code, 2, "{line}");
+        assert_eq!(rt; called(alloc, line, &mut host)?, 2, "{line}");
         assert!(rt; host.written_out().is_empty(), "{line}");
         assert!(rt; host.written_err() == err.as_bytes(), "{line}");
     }
     Ok(())
+}
+
+#[test]
+fn names_the_limits_of_files(rt: HostRuntime) {
+    for (what, limit, line) in [
+        (
+            "image",
+            IMAGE_LIMIT,
+            "ras: image too long: limit 83886080\n",
+        ),
+        (
+            "script",
+            SCRIPT_LIMIT,
+            "ras: script too long: limit 4194304\n",
+        ),
+        (
+            "input",
+            INPUT_LIMIT,
+            "ras: input too long: limit 16777216\n",
+        ),
+    ] {
+        assert!(rt; what.len() <= 100);
+        assert!(rt;
+            too_long(what.as_bytes(), limit).as_slice() == line.as_bytes(),
+            "{line}"
+        );
+    }
 }

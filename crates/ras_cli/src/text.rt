@@ -3,16 +3,20 @@
 ghost use Rattle.std.specs.Prelude.{◌≡◌, ◌+◌, ◌≤◌, ◌++◌, length};
 ghost use Rattle.std.specs.Fmt.{decimal};
 ghost use Rattle.arrayvec.specs.ArrayVec.{array_vec_len};
+ghost use Rattle.ras_cli.specs.declared.text.TheConstants.{TEXT_ROOM};
 
 use arrayvec::ArrayVec;
 use itoa::Buffer;
 
-/// A text of at most 2,048 bytes, which no line and no report passes.
-pub type Text = ArrayVec<u8, 2048>;
+/// The most bytes of a text, which no line and no report passes.
+pub const TEXT_ROOM: usize = 2_048;
+
+/// A text of at most so many bytes.
+pub type Text = ArrayVec<u8, TEXT_ROOM>;
 
 /// Appends bytes that fit.
 pub fn push_text(text: &mut Text, bytes: &[u8])
-    requires { array_vec_len text.old + length bytes.now ≤ 2048 }
+    requires { array_vec_len text.old + length bytes.now ≤ TEXT_ROOM }
     ensures items { text.new.items ≡ text.old.items ++ bytes.now }
     ensures len { array_vec_len text.new ≡ array_vec_len text.old + length bytes.now }
 {
@@ -24,7 +28,7 @@ pub fn push_text(text: &mut Text, bytes: &[u8])
 
 /// Appends a number in decimal.
 pub fn push_number(text: &mut Text, number: u64)
-    requires { array_vec_len text.old + 20 ≤ 2048 }
+    requires { array_vec_len text.old + 20 ≤ TEXT_ROOM }
     ensures items { text.new.items ≡ text.old.items ++ decimal number }
     ensures len { array_vec_len text.new ≤ array_vec_len text.old + 20 }
 {

@@ -78,7 +78,7 @@ fn run_command<H: Host>(alloc: Global, run: RunWords<'_>, host: &mut H) -> Statu
 /// | 4 | want of memory; nothing was written |
 /// | 5 | the run stopped at a poisoned word, and all was written |
 ///
-/// The limits are 83,886,080 bytes for the image, 4,194,304 for the script and 16,777,216 for the input.
+/// The limits of files are those of `ras_words`: `IMAGE_LIMIT`, `SCRIPT_LIMIT` and `INPUT_LIMIT` bytes.
 pub fn ras_main<H: Host>(alloc: Global, words: &[String], host: &mut H) -> Status
     ensures codes { result.code ≤ 5 }
 
