@@ -1,4 +1,4 @@
-//! Tests of the libraries below, as tables over their public calls.
+//! Tests of the libraries below the program but the hart's, as tables over their public calls.
 //!
 //! They stand apart from the crates that they try, so that each of these is proved once. A row is for what no clause
 //! promises: an example from a standard, a text, a call that takes memory.
@@ -9,32 +9,14 @@ mod error_formats;
 #[cfg(test)]
 mod errors;
 #[cfg(test)]
-mod firmware_calls;
-#[cfg(test)]
-mod hart_calls;
-#[cfg(test)]
-mod hart_guest;
-#[cfg(test)]
-mod hart_instructions;
-#[cfg(test)]
-mod hart_pages;
-#[cfg(test)]
-mod hart_traps;
-#[cfg(test)]
 mod helpers;
 #[cfg(test)]
 mod hosts;
 #[cfg(test)]
 mod inputs;
 #[cfg(test)]
-mod instructions;
-#[cfg(test)]
 mod machine;
 #[cfg(test)]
 mod memory;
-#[cfg(test)]
-mod page_walks;
-#[cfg(test)]
-mod supervisor_registers;
 #[cfg(test)]
 mod words;
