@@ -20,7 +20,7 @@ pub record HasRoomFor {S : Type 0} (sets ways : ℕ) (level : Level S) (entries 
 
 -- What the lists are in every reachable state, and what the two calls that change them do and keep.
 pub record KeepsEntries {S : Type 0} (sets ways : ℕ) (level : Level S) (valid : S → Type 0) (entries : EntryCalls S) : Type 0 where
-  pub some : 1 ≤ sets
+  pub some : (s : S) → valid s → 1 ≤ sets
   -- a set holds at most so many lines as there are ways, each in range and in its own set, and once
   pub fits : (s : S) (set : ℕ) → valid s → set < sets → length (entries.listed s set) ≤ ways
   pub held : (s : S) (set k : ℕ) (h : Held) → valid s → set < sets → slice_get (entries.listed s set) k ≡ Some h
