@@ -5,6 +5,8 @@
 #![tactic(auto)]
 
 #[cfg(test)]
+mod demo;
+#[cfg(test)]
 mod error_formats;
 #[cfg(test)]
 mod errors;
