@@ -1,5 +1,5 @@
 -- The draws of one line of the demo script.
-use Rattle.std.proofs.Common.{◌≡◌, ◌+◌, ◌*◌, ◌/◌, ◌%◌, ◌^◌, ◌∙◌, ◌++◌, List, ℕ, refl, arith}
+use Rattle.std.proofs.Common.{◌≡◌, ◌+◌, ◌*◌, ◌/◌, ◌%◌, ◌^◌, ◌++◌, List, ℕ, refl, arith}
 use native.Mathlib.Numerals.{unary_clauses}
 use Rattle.ras_gen.specs.Demo.{next_state, state_after, demo_line, demo_lines, demo_script, flip_text}
 use Rattle.ras_gen.specs.declared.demo.TheConstants.{FLIPS, STEPS, FIRST_WORD, WORDS, BITS}
