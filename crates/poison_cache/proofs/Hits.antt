@@ -3,17 +3,18 @@ use Rattle.std.proofs.Common.{ℕ, ◌-◌, ◌≡◌, ◌∙◌, ◌∷◌, ◌
 use Rattle.std.specs.List.{slice_get}
 use Rattle.std.specs.Option.{option_map, is_some}
 use Rattle.std.proofs.lemmas.List.{set-get_or}
-use Rattle.std.proofs.lemmas.Option.{slice_get-get_or}
+use Rattle.std.proofs.lemmas.Option.{slice_get-get_or, same_Some}
 use Rattle.poison_mem.specs.declared.cell.Cell.{Cell}
 use Rattle.poison_mem.specs.declared.line.Line.{Line}
 use Rattle.poison_mem.specs.declared.cache_state.Held.{Held}
+use Rattle.poison_mem.specs.Bus.{Storing}
 use Rattle.poison_mem.specs.Level.{Level}
 use Rattle.poison_mem.specs.Line.{cell, with_cell}
 use Rattle.poison_mem.specs.Merge.{merged_cell}
 use Rattle.poison_cache.specs.LogTo.{LogTo}
 use Rattle.poison_cache.specs.SoundLaws.{none_some, entry_line}
-use Rattle.poison_cache.specs.Recent.{entry_of, without, renewed_as, with_cells, stored_into, with_room}
-use Rattle.poison_cache.specs.Cache.{Shown, without_victim, room_as, room_in, get_as, put_as, peek_as}
+use Rattle.poison_cache.specs.Recent.{entry_of, without, renewed_as, with_cells, stored_into, dirty_one, dirty_victim_of, with_room}
+use Rattle.poison_cache.specs.Cache.{Shown, evicted_as, evicted, without_victim, room_as, room_in, get_as, put_as, peek_as}
 
 -- no entry, where nothing was found of it
 pub none_found : {X : Type 0} (f : Held → X) (entry : Option Held) → None ≡ option_map f entry → entry ≡ None
@@ -49,6 +50,46 @@ module _ {S : Type 0} (level : Level S) (log_to : LogTo) (ways : ℕ) (below : S
   pub room_entries : (hs : List Held) → (room_in level log_to ways hs below).entries ≡ with_room ways hs
   unfolding room_in
   room_entries hs = room_as-entries (nat_lt (length hs) ways) hs
+
+-- room where there is something to write back, and where there is not
+module _ {S : Type 0} (level : Level S) (log_to : LogTo) (ways : ℕ) (hs : List Held) (below : S) where
+  evicted_dirty : (dirty : Bool) (h v : Held) → cond dirty (Some h) None ≡ Some v → evicted_as dirty level log_to h below ≡ evicted_as true level log_to v below
+  evicted_dirty true h v found = ap (λ x. evicted_as true level log_to x below) (same_Some h v found)
+  evicted_dirty false h v found = cc
+
+  evicted_clean : (dirty : Bool) (h : Held) → cond dirty (Some h) None ≡ None → evicted_as dirty level log_to h below ≡ record { after = below; events = [] }
+  evicted_clean true h none = cc
+  evicted_clean false h none = refl
+
+  room_dirty : (has_room : Bool) (last : Option Held) (v : Held) → slice_get hs (length hs - 1) ≡ last → dirty_one (cond has_room None last) ≡ Some v
+      → ((room_as has_room level log_to hs below).below ≡ (evicted_as true level log_to v below).after)
+      × ((room_as has_room level log_to hs below).events ≡ (evicted_as true level log_to v below).events)
+  unfolding evicted
+  room_dirty true last v at_last found = cc
+  room_dirty false None v at_last found = cc
+  room_dirty false (Some h) v at_last found =
+      let same = evicted_dirty h.dirty h v found in
+      rw at_last (ap (λ (e : Storing S). e.after) same, ap (λ (e : Storing S). e.events) same)
+
+  room_clean : (has_room : Bool) (last : Option Held) → slice_get hs (length hs - 1) ≡ last → dirty_one (cond has_room None last) ≡ None
+      → ((room_as has_room level log_to hs below).below ≡ below) × ((room_as has_room level log_to hs below).events ≡ [])
+  unfolding evicted
+  room_clean true last at_last none = (refl, refl)
+  room_clean false None at_last none = rw at_last (refl, refl)
+  room_clean false (Some h) at_last none =
+      let same = evicted_clean h.dirty h none in
+      rw at_last (ap (λ (e : Storing S). e.after) same, ap (λ (e : Storing S). e.events) same)
+
+  pub dirty_room : (v : Held) → dirty_victim_of ways hs ≡ Some v
+      → ((room_in level log_to ways hs below).below ≡ (evicted_as true level log_to v below).after)
+      × ((room_in level log_to ways hs below).events ≡ (evicted_as true level log_to v below).events)
+  unfolding room_in
+  dirty_room v found = room_dirty (nat_lt (length hs) ways) (slice_get hs (length hs - 1)) v refl found
+
+  pub clean_room : dirty_victim_of ways hs ≡ None
+      → ((room_in level log_to ways hs below).below ≡ below) × ((room_in level log_to ways hs below).events ≡ [])
+  unfolding room_in
+  clean_room none = room_clean (nat_lt (length hs) ways) (slice_get hs (length hs - 1)) refl none
 
 -- what a hit and a miss leave
 module _ {S : Type 0} (level : Level S) (log_to : LogTo) (ways : ℕ) (hs : List Held) (below : S) (l : ℕ) where

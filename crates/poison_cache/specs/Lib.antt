@@ -1,4 +1,8 @@
 pub mod LogTo
+pub mod Ranks
+pub mod Positions
+pub mod Ways
+pub mod Sets
 pub mod Recent
 pub mod Sound
 pub mod SoundLaws
@@ -10,3 +14,5 @@ pub mod WordsLaws
 pub mod CountsLaws
 pub mod Standing
 pub mod StandingLaws
+pub mod Entries
+pub mod EntriesLaws

@@ -1,5 +1,5 @@
 -- The entries of one set, the most recent first.
-use Rattle.std.specs.Prelude.{ℕ, ◌==◌, ◌<◌, ◌≡◌, ◌-◌, List, [], ◌∷◌, Option, None, Some, true, nat_lt, if◌then◌else◌, length, take, remove, slice_get}
+use Rattle.std.specs.Prelude.{ℕ, ◌==◌, ◌-◌, List, [], ◌∷◌, Option, None, Some, true, nat_lt, if◌then◌else◌, length, take, slice_get}
 use Rattle.poison_mem.specs.declared.cache_state.Held.{Held}
 use Rattle.poison_mem.specs.declared.line.Line.{Line}
 use Rattle.poison_mem.specs.Line.{cell, with_cell}
@@ -28,15 +28,19 @@ with_cells h cells = record { line = h.line; dirty = true; cells = cells }
 abbrev pub stored_into : ℕ → ℕ → ℕ → Held → Held
 stored_into i v mask h = with_cells h (with_cell h.cells i (merged_cell (cell h.cells i) v mask))
 
--- the victim of a full list, and the list with room for one more entry
+-- the victim of a full list is its last entry
 abbrev pub victim_of : ℕ → List Held → Option Held
 victim_of ways hs = if nat_lt (length hs) ways then None else slice_get hs (length hs - 1)
+
+-- an entry that is to be written back
+abbrev pub dirty_one : Option Held → Option Held
+dirty_one None = None
+dirty_one (Some h) = if h.dirty then Some h else None
+
+-- the victim of a full list, where it is to be written back
+abbrev pub dirty_victim_of : ℕ → List Held → Option Held
+dirty_victim_of ways hs = dirty_one (victim_of ways hs)
 
 -- a list without its victim, where it is full
 abbrev pub with_room : ℕ → List Held → List Held
 with_room ways hs = if nat_lt (length hs) ways then hs else take (length hs - 1) hs
-
--- where the entry of a line is: none where there is no entry of it
-abbrev pub IsPositionOf : ℕ → List Held → Option ℕ → Type 0
-IsPositionOf l entries None = (entry_of l entries ≡ None) × (without l entries ≡ entries)
-IsPositionOf l entries (Some k) = (k < length entries) × (entry_of l entries ≡ slice_get entries k) × (without l entries ≡ remove entries k)

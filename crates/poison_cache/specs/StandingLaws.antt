@@ -406,6 +406,11 @@ module _ {S : Type 0} (level : Level S) (valid : S → Type 0) (stands : S → �
     below = get_as-valid s.log_to sets ((w / 8) % sets) ways (entry_of (w / 8) (list_of sets s (w / 8))) (list_of sets s (w / 8)) s.below (w / 8) ok.below in_range (sound sets ways s (w / 8) ok in_range);
   }
 
+-- another state below with as many words
+pub still-valid : {S : Type 0} (level : Level S) (valid : S → Type 0) (sets ways : ℕ) (s : CachedLines S) (after : S) → CacheValid sets ways level valid s
+    → level.words after ≡ level.words s.below → valid after → CacheValid sets ways level valid (record s { below = after })
+still-valid level valid sets ways s after ok same fine = record { lists = rw same ok.lists; below = fine }
+
 -- the calls on the cells of the memory at the bottom
 module _ {S : Type 0} (level : Level S) (calls : CellCalls S) (valid : S → Type 0) (stands : S → ℕ → (ℕ → ℕ) → (ℕ → ℕ) → Type 0)
     (keeps_counts : CellsKeepCounts level.words calls) (keeps_lines : KeepsLines level valid stands) (cells_keep_lines : CellsKeepLines level calls valid stands) where
@@ -420,15 +425,12 @@ module _ {S : Type 0} (level : Level S) (calls : CellCalls S) (valid : S → Typ
   entry-scrubbed None below w k f q ok in_range it = cells_keep_lines.scrub_keeps below w k f q ok in_range it
   entry-scrubbed (Some h) below w k f q ok in_range it = (it.0, λ clean. cells_keep_lines.scrub_keeps below w k f q ok in_range (it.1 clean))
 
-  still-valid : (sets ways : ℕ) (s : CachedLines S) (after : S) → CacheValid sets ways level valid s → level.words after ≡ level.words s.below → valid after → CacheValid sets ways level valid (record s { below = after })
-  still-valid sets ways s after ok same fine = record { lists = rw same ok.lists; below = fine }
-
   pub cache_cells_keep_lines : (sets ways : ℕ) → CellsKeepLines (cache_level sets ways level) (cache_calls calls) (CacheValid sets ways level valid) (CacheStands stands sets)
   cache_cells_keep_lines sets ways = record {
-    load_valid = λ s w v ok in_range. still-valid sets ways s (calls.load s.below w v) ok (keeps_counts.load_words s.below w v) (cells_keep_lines.load_valid s.below w v ok.below in_range);
-    strike_valid = λ s w bit ok in_range fits. still-valid sets ways s (calls.strike s.below w bit) ok (keeps_counts.strike_words s.below w bit) (cells_keep_lines.strike_valid s.below w bit ok.below in_range fits);
-    scrub_valid = λ s w ok in_range. still-valid sets ways s (calls.scrub s.below w).after ok (keeps_counts.scrub_words s.below w) (cells_keep_lines.scrub_valid s.below w ok.below in_range);
-    set_cell_valid = λ s w state ok in_range counted. still-valid sets ways s (calls.set_cell s.below w state) ok (keeps_counts.set_cell_words s.below w state) (cells_keep_lines.set_cell_valid s.below w state ok.below in_range counted);
+    load_valid = λ s w v ok in_range. still-valid level valid sets ways s (calls.load s.below w v) ok (keeps_counts.load_words s.below w v) (cells_keep_lines.load_valid s.below w v ok.below in_range);
+    strike_valid = λ s w bit ok in_range fits. still-valid level valid sets ways s (calls.strike s.below w bit) ok (keeps_counts.strike_words s.below w bit) (cells_keep_lines.strike_valid s.below w bit ok.below in_range fits);
+    scrub_valid = λ s w ok in_range. still-valid level valid sets ways s (calls.scrub s.below w).after ok (keeps_counts.scrub_words s.below w) (cells_keep_lines.scrub_valid s.below w ok.below in_range);
+    set_cell_valid = λ s w state ok in_range counted. still-valid level valid sets ways s (calls.set_cell s.below w state) ok (keeps_counts.set_cell_words s.below w state) (cells_keep_lines.set_cell_valid s.below w state ok.below in_range counted);
     strike_keeps = λ s w bit k f q ok in_range fits third it. entry-struck (entry_of k (list_of sets s k)) s.below w bit k f q ok.below in_range fits third it;
     scrub_keeps = λ s w k f q ok in_range it. entry-scrubbed (entry_of k (list_of sets s k)) s.below w k f q ok.below in_range it;
   }

@@ -7,7 +7,8 @@ ghost use Rattle.poison_mem.specs.Level.{InRange};
 ghost use Rattle.poison_mem.specs.Line.{cell};
 ghost use Rattle.poison_mem.specs.Bus.{logged_all};
 ghost use Rattle.poison_cache.specs.declared.sets.TheConstants.{MOST_HELD};
-ghost use Rattle.poison_cache.specs.Cache.{evicted, room_in, get_as, get_in, put_in, store_in, poison_events, cell_event};
+ghost use Rattle.poison_cache.specs.Recent.{entry_of};
+ghost use Rattle.poison_cache.specs.Cache.{evicted_as, room_in, get_as, get_in, put_in, store_in, poison_events, cell_event};
 
 use crate::sets::Sets;
 use poison_mem::{
@@ -60,22 +61,19 @@ fn log_poison<G: EventLog>(log_to: LogTo, held: &Held, g: &mut G)
     }
 }
 
-/// Evicts an entry: a dirty one is written back, after its events.
-#[tactic(auto, unfolding(crate::specs::Cache::evicted), using(crate::proofs::Logging::logged_both))]
-fn evict<M: LineMem, G: EventLog>(log_to: LogTo, victim: &Held, below: &mut M, g: &mut G)
+/// Writes an entry back, after its events.
+#[tactic(auto, using(crate::proofs::Logging::logged_both))]
+fn write_back<M: LineMem, G: EventLog>(log_to: LogTo, victim: &Held, below: &mut M, g: &mut G)
     requires { InRange M.level below.old victim.now.line }
-    ensures after { below.new ≡ (evicted M.level log_to victim.now below.old).after }
-    ensures events { g.new ≡ logged_all G.logged g.old (evicted M.level log_to victim.now below.old).events }
+    ensures after { below.new ≡ (evicted_as true M.level log_to victim.now below.old).after }
+    ensures events { g.new ≡ logged_all G.logged g.old (evicted_as true M.level log_to victim.now below.old).events }
     ensures words { M.level.words below.new ≡ M.level.words below.old }
 {
-    if victim.dirty {
-        log_poison(log_to, victim, g);
-        below.put_line(victim.line, &victim.cells, g);
-    }
+    log_poison(log_to, victim, g);
+    below.put_line(victim.line, &victim.cells, g);
 }
 
-/// Room for one more entry in the set of a line: a full set evicts its last.
-#[tactic(auto, unfolding(crate::specs::Cache::room_in))]
+/// Room for one more entry in the set of a line: a full set evicts its last, which is written back where it is dirty.
 fn make_room<M: LineMem, G: EventLog, const SETS: usize, const WAYS: usize>(
     log_to: LogTo,
     sets: &Sets<SETS, WAYS>,
@@ -88,8 +86,8 @@ fn make_room<M: LineMem, G: EventLog, const SETS: usize, const WAYS: usize>(
     ensures events { g.new ≡ logged_all G.logged g.old (room_in M.level log_to WAYS (slice_index_or sets.now (l % SETS) []) below.old).events }
     ensures words { M.level.words below.new ≡ M.level.words below.old }
 {
-    match sets.victim(l) {
-        Some(victim) => evict(log_to, &victim, below, g),
+    match sets.dirty_victim(l) {
+        Some(victim) => write_back(log_to, &victim, below, g),
         None => (),
     }
 }
@@ -114,6 +112,28 @@ fn fetch<M: LineMem, G: EventLog, const SETS: usize, const WAYS: usize>(
     below.read_line(l, g)
 }
 
+/// Reads a line that isn't held from below, and puts it in front of its set, clean.
+fn fill<M: LineMem, G: EventLog, const SETS: usize, const WAYS: usize>(
+    log_to: LogTo,
+    sets: &mut Sets<SETS, WAYS>,
+    below: &mut M,
+    l: u32,
+    g: &mut G,
+) -> Line
+    requires range { AllByRecursion (λ h. InRange M.level below.old h.line) (slice_index_or sets.old (l % SETS) []) }
+    requires line { InRange M.level below.old l }
+    requires absent { entry_of l (slice_index_or sets.old (l % SETS) []) ≡ None }
+    ensures cells { result ≡ (get_as None M.level log_to WAYS (slice_index_or sets.old (l % SETS) []) below.old l).cells }
+    ensures sets { sets.new ≡ slice_set sets.old (l % SETS) (get_as None M.level log_to WAYS (slice_index_or sets.old (l % SETS) []) below.old l).entries }
+    ensures below { below.new ≡ (get_as None M.level log_to WAYS (slice_index_or sets.old (l % SETS) []) below.old l).below }
+    ensures events { g.new ≡ logged_all G.logged g.old (get_as None M.level log_to WAYS (slice_index_or sets.old (l % SETS) []) below.old l).events }
+    ensures words { M.level.words below.new ≡ M.level.words below.old }
+{
+    let cells = fetch(log_to, sets, below, l, g);
+    sets.put_first(l, false, &cells);
+    cells
+}
+
 /// What the set of a line and the level below it show for the line.
 fn get_line<M: LineMem, G: EventLog, const SETS: usize, const WAYS: usize>(
     log_to: LogTo,
@@ -132,15 +152,7 @@ fn get_line<M: LineMem, G: EventLog, const SETS: usize, const WAYS: usize>(
 {
     match sets.read_cells(l) {
         Some(cells) => cells,
-        None => {
-            let cells = fetch(log_to, sets, below, l, g);
-            sets.put_first(&Held {
-                line: l,
-                dirty: false,
-                cells,
-            });
-            cells
-        }
+        None => fill(log_to, sets, below, l, g),
     }
 }
 
@@ -162,7 +174,7 @@ fn get_word<M: LineMem, G: EventLog, const SETS: usize, const WAYS: usize>(
 {
     match sets.read_cell(w / 8, (w % 8) as u8) {
         Some(cell) => cell,
-        None => get_line(log_to, sets, below, w / 8, g).cell((w % 8) as u8),
+        None => fill(log_to, sets, below, w / 8, g).cell((w % 8) as u8),
     }
 }
 
@@ -184,11 +196,7 @@ fn put_line<M: LineMem, G: EventLog, const SETS: usize, const WAYS: usize>(
 {
     if !sets.put_cells(l, cells) {
         make_room(log_to, sets, below, l, g);
-        sets.put_first(&Held {
-            line: l,
-            dirty: true,
-            cells: *cells,
-        });
+        sets.put_first(l, true, cells);
     }
 }
 
@@ -213,11 +221,7 @@ fn store_word<M: LineMem, G: EventLog, const SETS: usize, const WAYS: usize>(
     if !sets.store_cell(w / 8, i, v, mask) {
         let mut cells = fetch(log_to, sets, below, w / 8, g);
         cells.set(i, merge(cells.cell(i), v, mask));
-        sets.put_first(&Held {
-            line: w / 8,
-            dirty: true,
-            cells,
-        });
+        sets.put_first(w / 8, true, &cells);
     }
 }
 
@@ -229,8 +233,8 @@ fn store_word<M: LineMem, G: EventLog, const SETS: usize, const WAYS: usize>(
 /// The levels don't include one another. Flips and scrubs act on the memory at the bottom and leave the lines held here.
 #[derive(Drop)]
 pub struct Cache<M: LineMem, const SETS: usize, const WAYS: usize> {
-    sets: Sets<SETS, WAYS>,
-    below: M,
+    pub(crate) sets: Sets<SETS, WAYS>,
+    pub(crate) below: M,
     log_to: LogTo,
 }
 

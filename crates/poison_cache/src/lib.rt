@@ -2,8 +2,9 @@
 #![tactic(auto)]
 
 mod cache;
-mod recent;
+mod entries;
 mod sets;
+mod ways;
 
 pub use cache::Cache;
 pub use sets::MOST_HELD;

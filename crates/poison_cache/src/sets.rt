@@ -1,13 +1,15 @@
-//! The sets of a cache.
+//! The sets of a cache, in flat arrays.
 
-ghost use Rattle.std.specs.Prelude.{◌≡◌, ◌<◌, ◌≤◌, ◌*◌, ◌%◌, ℕ, [], ◌∷◌, replicate, slice_index_or, slice_set, IfOk, IfNone, IsTrue, not};
+ghost use Rattle.std.specs.Prelude.{◌≡◌, ◌+◌, ◌<◌, ◌≤◌, ◌*◌, ◌%◌, ℕ, List, [], ◌∷◌, ◌++◌, length, replicate, slice_get, slice_index_or, slice_set, None, IfOk};
 ghost use Rattle.std.specs.Option.{option_map, is_some};
 ghost use Rattle.poison_mem.specs.Line.{cell};
 ghost use Rattle.poison_cache.specs.declared.sets.TheConstants.{MOST_HELD};
-ghost use Rattle.poison_cache.specs.Recent.{entry_of, renewed_as, with_cells, stored_into, victim_of, with_room};
+ghost use Rattle.poison_cache.specs.Ranks.{AreNewRanks};
+ghost use Rattle.poison_cache.specs.Sets.{entry_in};
+ghost use Rattle.poison_cache.specs.Recent.{entry_of, renewed_as, with_cells, stored_into, dirty_victim_of, with_room};
 
-use crate::recent::Recent;
-use poison_mem::{Cell, Held, Line};
+use crate::ways::{Flag, empty_all, empty_way, last_way, promote, way_of_line, way_of_rank};
+use poison_mem::{Cell, Held, Line, merge};
 use ras_bits::NoMemory;
 use std::alloc::Global;
 use std::marker::Model;
@@ -15,22 +17,88 @@ use std::marker::Model;
 /// The most lines that a cache can hold.
 pub const MOST_HELD: usize = 65_536;
 
-/// The lists of what the sets hold. Line `l` belongs to the set `l % SETS`.
+/// The cells of a way that holds no line yet.
+const NO_CELLS: Line = Line {
+    c0: Cell::Poison,
+    c1: Cell::Poison,
+    c2: Cell::Poison,
+    c3: Cell::Poison,
+    c4: Cell::Poison,
+    c5: Cell::Poison,
+    c6: Cell::Poison,
+    c7: Cell::Poison,
+};
+
+/// The ways of all sets: way `w` of a set stands at `set * WAYS + w` of each array. Line `l` belongs to the set `l % SETS`.
+///
+/// The ways of a set have the ranks 0 up, each once: 0 is the most recently used, and those that hold a line have the
+/// lowest.
 #[derive(Drop)]
 pub(crate) struct Sets<const SETS: usize, const WAYS: usize> {
-    lists: Vec<Recent<WAYS>>,
+    lines: Vec<u32>,
+    flags: Vec<Flag>,
+    ranks: Vec<u16>,
+    cells: Vec<Line>,
 }
 
 impl<const SETS: usize, const WAYS: usize> Model for Sets<SETS, WAYS> {
-    ghost use Rattle.std.specs.Prelude.{◌≡◌, ◌≤◌, ◌*◌, List, length};
+    ghost use Rattle.std.specs.Prelude.{List};
     ghost use Rattle.poison_mem.specs.declared.cache_state.Held.{Held};
-    ghost use Rattle.poison_cache.specs.declared.sets.TheConstants.{MOST_HELD};
+    ghost use Rattle.poison_cache.specs.Sets.{AreSets, lists_of};
 
     ghost Value = { List (List Held) };
 
-    ghost view = { λ s. s.lists.items };
+    ghost view = { λ s. lists_of SETS WAYS (record { lines = s.lines.items; flags = s.flags.items; ranks = s.ranks.items; cells = s.cells.items }) };
 
-    ghost invariant = { λ s. (1 ≤ SETS) × (1 ≤ WAYS) × (SETS * WAYS ≤ MOST_HELD) × (length s.lists.items ≡ SETS) };
+    ghost invariant = { λ s. AreSets SETS WAYS (record { lines = s.lines.items; flags = s.flags.items; ranks = s.ranks.items; cells = s.cells.items }) };
+}
+
+/// The first way of the set of a line.
+#[inline]
+fn first_way(sets: usize, ways: usize, line: u32) -> usize
+    requires some { 1 ≤ sets }
+    requires most { sets * ways ≤ MOST_HELD }
+    ensures first { result ≡ line % sets * ways }
+    ensures inside { result + ways ≤ sets * ways }
+{
+    line as usize % sets * ways
+}
+
+/// What a way holds.
+fn held_at(lines: &[u32], flags: &[Flag], cells: &[Line], way: usize) -> Option<Held>
+    requires lines { way < length lines.now }
+    requires flags { way < length flags.now }
+    requires cells { way < length cells.now }
+    ensures { (ranks : List ℕ) → result ≡ entry_in (record { lines = lines.now; flags = flags.now; ranks = ranks; cells = cells.now }) way }
+{
+    let line = lines[way];
+    let cells = cells[way];
+    match flags[way] {
+        Flag::Empty => None,
+        Flag::Clean => Some(Held {
+            line,
+            dirty: false,
+            cells,
+        }),
+        Flag::Dirty => Some(Held {
+            line,
+            dirty: true,
+            cells,
+        }),
+    }
+}
+
+/// The ranks of the ways of all sets, where none was used yet.
+fn new_ranks(alloc: Global, all: usize, ways: usize) -> Result<Vec<u16>, NoMemory>
+    requires some { 1 ≤ ways }
+    requires most { ways ≤ MOST_HELD }
+    ensures { IfOk result (λ ranks. AreNewRanks all ways ranks.items) }
+{
+    let mut ranks = vec![in alloc; 0u16; all]?;
+    for way in 0..all {
+        ranks[way] = (way % ways) as u16;
+    }
+    Ok(ranks)
 }
 
 impl<const SETS: usize, const WAYS: usize> Sets<SETS, WAYS> {
@@ -41,19 +109,28 @@ impl<const SETS: usize, const WAYS: usize> Sets<SETS, WAYS> {
         requires most { SETS * WAYS ≤ MOST_HELD }
         ensures { IfOk result (λ s. s ≡ replicate SETS []) }
     {
-        let mut lists = Vec::with_capacity(alloc, SETS)?;
-        for _ in 0..SETS {
-            lists.push(Recent::make(alloc)?)?;
-        }
-        Ok(Sets { lists })
+        let lines = vec![in alloc; 0u32; SETS * WAYS]?;
+        let flags = vec![in alloc; Flag::Empty; SETS * WAYS]?;
+        let ranks = new_ranks(alloc, SETS * WAYS, WAYS)?;
+        let cells = vec![in alloc; NO_CELLS; SETS * WAYS]?;
+        Ok(Sets {
+            lines,
+            flags,
+            ranks,
+            cells,
+        })
     }
 
     /// The cells of a line.
     pub(crate) fn cells(&self, l: u32) -> Option<Line>
         ensures { result ≡ option_map (λ h. h.cells) (entry_of l (slice_index_or self.now (l % SETS) [])) }
     {
-        let lists = &self.lists;
-        lists[l as usize % SETS].cells(l)
+        let lines = &self.lines;
+        let first = first_way(SETS, WAYS, l);
+        match way_of_line(lines, &self.flags, first, WAYS, l) {
+            Some(way) => Some(self.cells[way]),
+            None => None,
+        }
     }
 
     /// The cells of a line, which is the most recent of its set then.
@@ -61,7 +138,15 @@ impl<const SETS: usize, const WAYS: usize> Sets<SETS, WAYS> {
         ensures cells { result ≡ option_map (λ h. h.cells) (entry_of l (slice_index_or self.old (l % SETS) [])) }
         ensures after { self.new ≡ slice_set self.old (l % SETS) (renewed_as (entry_of l (slice_index_or self.old (l % SETS) [])) (λ h. h) l (slice_index_or self.old (l % SETS) [])) }
     {
-        self.lists[l as usize % SETS].read_cells(l)
+        let lines = &self.lines;
+        let first = first_way(SETS, WAYS, l);
+        match way_of_line(lines, &self.flags, first, WAYS, l) {
+            Some(way) => {
+                promote(&mut self.ranks, first, WAYS, way);
+                Some(self.cells[way])
+            }
+            None => None,
+        }
     }
 
     /// One cell of a line, which is the most recent of its set then.
@@ -70,7 +155,16 @@ impl<const SETS: usize, const WAYS: usize> Sets<SETS, WAYS> {
         ensures cell { result ≡ option_map (λ h. cell h.cells i) (entry_of l (slice_index_or self.old (l % SETS) [])) }
         ensures after { self.new ≡ slice_set self.old (l % SETS) (renewed_as (entry_of l (slice_index_or self.old (l % SETS) [])) (λ h. h) l (slice_index_or self.old (l % SETS) [])) }
     {
-        self.lists[l as usize % SETS].read_cell(l, i)
+        let lines = &self.lines;
+        let first = first_way(SETS, WAYS, l);
+        match way_of_line(lines, &self.flags, first, WAYS, l) {
+            Some(way) => {
+                promote(&mut self.ranks, first, WAYS, way);
+                let cells = &self.cells[way];
+                Some(cells.cell(i))
+            }
+            None => None,
+        }
     }
 
     /// Sets the cells of a line, which is the most recent of its set then, and dirty. Answers whether it is held.
@@ -78,7 +172,17 @@ impl<const SETS: usize, const WAYS: usize> Sets<SETS, WAYS> {
         ensures held { result ≡ is_some (entry_of l (slice_index_or self.old (l % SETS) [])) }
         ensures after { self.new ≡ slice_set self.old (l % SETS) (renewed_as (entry_of l (slice_index_or self.old (l % SETS) [])) (λ h. with_cells h cells.now) l (slice_index_or self.old (l % SETS) [])) }
     {
-        self.lists[l as usize % SETS].put_cells(l, cells)
+        let lines = &self.lines;
+        let first = first_way(SETS, WAYS, l);
+        match way_of_line(lines, &self.flags, first, WAYS, l) {
+            Some(way) => {
+                promote(&mut self.ranks, first, WAYS, way);
+                self.flags[way] = Flag::Dirty;
+                self.cells[way] = *cells;
+                true
+            }
+            None => false,
+        }
     }
 
     /// Stores into a cell of a line, which is the most recent of its set then, and dirty. Answers whether it is held.
@@ -87,21 +191,82 @@ impl<const SETS: usize, const WAYS: usize> Sets<SETS, WAYS> {
         ensures held { result ≡ is_some (entry_of l (slice_index_or self.old (l % SETS) [])) }
         ensures after { self.new ≡ slice_set self.old (l % SETS) (renewed_as (entry_of l (slice_index_or self.old (l % SETS) [])) (stored_into i v mask) l (slice_index_or self.old (l % SETS) [])) }
     {
-        self.lists[l as usize % SETS].store_cell(l, i, v, mask)
+        let lines = &self.lines;
+        let first = first_way(SETS, WAYS, l);
+        match way_of_line(lines, &self.flags, first, WAYS, l) {
+            Some(way) => {
+                promote(&mut self.ranks, first, WAYS, way);
+                self.flags[way] = Flag::Dirty;
+                let cells = &mut self.cells[way];
+                cells.set(i, merge(cells.cell(i), v, mask));
+                true
+            }
+            None => false,
+        }
     }
 
-    /// The last entry of a line's set, where there is no room for another one.
-    pub(crate) fn victim(&self, l: u32) -> Option<Held>
-        ensures { result ≡ victim_of WAYS (slice_index_or self.now (l % SETS) []) }
+    /// The last entry of a line's set, where there is no room for another one and it is dirty.
+    pub(crate) fn dirty_victim(&self, l: u32) -> Option<Held>
+        ensures { result ≡ dirty_victim_of WAYS (slice_index_or self.now (l % SETS) []) }
     {
-        let lists = &self.lists;
-        lists[l as usize % SETS].victim()
+        let ranks = &self.ranks;
+        let first = first_way(SETS, WAYS, l);
+        let way = last_way(ranks, first, WAYS);
+        match self.flags[way] {
+            Flag::Empty | Flag::Clean => None,
+            Flag::Dirty => Some(Held {
+                line: self.lines[way],
+                dirty: true,
+                cells: self.cells[way],
+            }),
+        }
     }
 
     /// Puts an entry in front of its set, in place of the last one where there is no room for both.
-    pub(crate) fn put_first(&mut self, held: &Held)
-        ensures { self.new ≡ slice_set self.old (held.now.line % SETS) (held.now ∷ with_room WAYS (slice_index_or self.old (held.now.line % SETS) [])) }
+    pub(crate) fn put_first(&mut self, line: u32, dirty: bool, cells: &Line)
+        requires { entry_of line (slice_index_or self.old (line % SETS) []) ≡ None }
+        ensures { self.new ≡ slice_set self.old (line % SETS) (record { line = line; dirty = dirty; cells = cells.now } ∷ with_room WAYS (slice_index_or self.old (line % SETS) [])) }
     {
-        self.lists[held.line as usize % SETS].put_first(held);
+        let ranks = &self.ranks;
+        let first = first_way(SETS, WAYS, line);
+        let way = last_way(ranks, first, WAYS);
+        promote(&mut self.ranks, first, WAYS, way);
+        self.lines[way] = line;
+        self.flags[way] = Flag::held(dirty);
+        self.cells[way] = *cells;
+    }
+
+    /// The entry `k` of the list of a set, counted from 0.
+    pub(crate) fn held(&self, set: u32, k: u32) -> Option<Held>
+        requires { set < SETS }
+        ensures { result ≡ slice_get (slice_index_or self.now set []) k }
+    {
+        let ranks = &self.ranks;
+        if k as usize >= WAYS {
+            return None;
+        }
+        let way = way_of_rank(ranks, set as usize * WAYS, WAYS, k as u16);
+        held_at(&self.lines, &self.flags, &self.cells, way)
+    }
+
+    /// Empties all lists.
+    pub(crate) fn forget_all(&mut self)
+        ensures { self.new ≡ replicate SETS [] }
+    {
+        empty_all(&mut self.flags);
+    }
+
+    /// Appends an entry to the list of its set.
+    pub(crate) fn place_last(&mut self, held: &Held)
+        requires absent { entry_of held.now.line (slice_index_or self.old (held.now.line % SETS) []) ≡ None }
+        requires room { length (slice_index_or self.old (held.now.line % SETS) []) < WAYS }
+        ensures { self.new ≡ slice_set self.old (held.now.line % SETS) (slice_index_or self.old (held.now.line % SETS) [] ++ held.now ∷ []) }
+    {
+        let ranks = &self.ranks;
+        let first = first_way(SETS, WAYS, held.line);
+        let way = empty_way(ranks, &self.flags, first, WAYS);
+        self.lines[way] = held.line;
+        self.flags[way] = Flag::held(held.dirty);
+        self.cells[way] = held.cells;
     }
 }

@@ -1,7 +1,7 @@
-use Rattle.std.proofs.Common.{◌≡◌, ◌∙◌, ◌%◌, [], None, ap, slice_index_or, slice_set}
+use Rattle.std.proofs.Common.{lit<, ◌≡◌, ◌∙◌, ◌%◌, [], None, ap, slice_index_or, slice_set}
 use Rattle.poison_cache.specs.Recent.{entry_of}
 use Rattle.poison_cache.specs.Cache.{get_in}
-use Rattle.poison_cache.proofs.Hits.{none_found, some_found, lists_stay, hit_line, hit_entries, hit_below, hit_events, miss_entries}
+use Rattle.poison_cache.proofs.Hits.{none_found, some_found, lists_stay, hit_line, hit_entries, hit_below, hit_events}
 use Rattle.poison_cache.proofs.cache.get_line.Goals as goal
 
 pub returns-in-Some-clause-cells : goal.returns-in-Some-clause-cells
@@ -22,31 +22,36 @@ pub returns-in-Some-clause-events : goal.returns-in-Some-clause-events
 unfolding get_in
 returns-in-Some-clause-events g c = rw (hit_events g.M.LineMem.level c.args.log_to g.row.WAYS (slice_index_or c.args.sets.now (c.args.l % g.row.SETS) []) c.args.below.now c.args.l (entry_of c.args.l (slice_index_or c.args.sets.now (c.args.l % g.row.SETS) [])) (some_found _ (entry_of c.args.l (slice_index_or c.args.sets.now (c.args.l % g.row.SETS) [])) _ c.in-Some.ensures.cells))
 
+pub fill-requires : goal.fill-requires
+fill-requires g c =
+    let missed : entry_of c.args.l (slice_index_or c.args.sets.now (c.args.l % g.row.SETS) []) ≡ None = none_found _ (entry_of c.args.l (slice_index_or c.args.sets.now (c.args.l % g.row.SETS) [])) c.in-None.ensures.cells in
+    let same : c.read_cells.new.self ≡ c.args.sets.now = c.in-None.ensures.after ∙ lists_stay c.args.sets.now (c.args.l % g.row.SETS) c.args.l _ (entry_of c.args.l (slice_index_or c.args.sets.now (c.args.l % g.row.SETS) [])) missed in
+    (lit< tt, rw same (c.requires.range, (c.requires.line, missed)))
+
 pub returns-in-None-clause-cells : goal.returns-in-None-clause-cells
 unfolding get_in
 returns-in-None-clause-cells g c =
-    let missed : (entry_of c.args.l (slice_index_or c.args.sets.now (c.args.l % g.row.SETS) [])) ≡ None = none_found _ (entry_of c.args.l (slice_index_or c.args.sets.now (c.args.l % g.row.SETS) [])) c.in-None.ensures.cells in
+    let missed : entry_of c.args.l (slice_index_or c.args.sets.now (c.args.l % g.row.SETS) []) ≡ None = none_found _ (entry_of c.args.l (slice_index_or c.args.sets.now (c.args.l % g.row.SETS) [])) c.in-None.ensures.cells in
     let same : c.read_cells.new.self ≡ c.args.sets.now = c.in-None.ensures.after ∙ lists_stay c.args.sets.now (c.args.l % g.row.SETS) c.args.l _ (entry_of c.args.l (slice_index_or c.args.sets.now (c.args.l % g.row.SETS) [])) missed in
-    rw missed (rw same at c.fetch-cells.ensures.cells)
-
-pub returns-in-None-clause-below : goal.returns-in-None-clause-below
-unfolding get_in
-returns-in-None-clause-below g c =
-    let missed : (entry_of c.args.l (slice_index_or c.args.sets.now (c.args.l % g.row.SETS) [])) ≡ None = none_found _ (entry_of c.args.l (slice_index_or c.args.sets.now (c.args.l % g.row.SETS) [])) c.in-None.ensures.cells in
-    let same : c.read_cells.new.self ≡ c.args.sets.now = c.in-None.ensures.after ∙ lists_stay c.args.sets.now (c.args.l % g.row.SETS) c.args.l _ (entry_of c.args.l (slice_index_or c.args.sets.now (c.args.l % g.row.SETS) [])) missed in
-    rw missed (rw same at c.fetch-cells.ensures.below)
-
-pub returns-in-None-clause-events : goal.returns-in-None-clause-events
-unfolding get_in
-returns-in-None-clause-events g c =
-    let missed : (entry_of c.args.l (slice_index_or c.args.sets.now (c.args.l % g.row.SETS) [])) ≡ None = none_found _ (entry_of c.args.l (slice_index_or c.args.sets.now (c.args.l % g.row.SETS) [])) c.in-None.ensures.cells in
-    let same : c.read_cells.new.self ≡ c.args.sets.now = c.in-None.ensures.after ∙ lists_stay c.args.sets.now (c.args.l % g.row.SETS) c.args.l _ (entry_of c.args.l (slice_index_or c.args.sets.now (c.args.l % g.row.SETS) [])) missed in
-    rw missed (rw same at c.fetch-cells.ensures.events)
+    rw missed (rw same at c.fill.ensures.cells)
 
 pub returns-in-None-clause-sets : goal.returns-in-None-clause-sets
 unfolding get_in
 returns-in-None-clause-sets g c =
-    let missed : (entry_of c.args.l (slice_index_or c.args.sets.now (c.args.l % g.row.SETS) [])) ≡ None = none_found _ (entry_of c.args.l (slice_index_or c.args.sets.now (c.args.l % g.row.SETS) [])) c.in-None.ensures.cells in
+    let missed : entry_of c.args.l (slice_index_or c.args.sets.now (c.args.l % g.row.SETS) []) ≡ None = none_found _ (entry_of c.args.l (slice_index_or c.args.sets.now (c.args.l % g.row.SETS) [])) c.in-None.ensures.cells in
     let same : c.read_cells.new.self ≡ c.args.sets.now = c.in-None.ensures.after ∙ lists_stay c.args.sets.now (c.args.l % g.row.SETS) c.args.l _ (entry_of c.args.l (slice_index_or c.args.sets.now (c.args.l % g.row.SETS) [])) missed in
-    (rw same at c.put_first.ensures) ∙ ap (λ es. slice_set c.args.sets.now (c.args.l % g.row.SETS) es)
-    (miss_entries g.M.LineMem.level c.args.log_to g.row.WAYS (slice_index_or c.args.sets.now (c.args.l % g.row.SETS) []) c.args.below.now c.args.l (entry_of c.args.l (slice_index_or c.args.sets.now (c.args.l % g.row.SETS) [])) _ missed (rw same at c.fetch-cells.ensures.cells))
+    rw missed (rw same at c.fill.ensures.sets)
+
+pub returns-in-None-clause-below : goal.returns-in-None-clause-below
+unfolding get_in
+returns-in-None-clause-below g c =
+    let missed : entry_of c.args.l (slice_index_or c.args.sets.now (c.args.l % g.row.SETS) []) ≡ None = none_found _ (entry_of c.args.l (slice_index_or c.args.sets.now (c.args.l % g.row.SETS) [])) c.in-None.ensures.cells in
+    let same : c.read_cells.new.self ≡ c.args.sets.now = c.in-None.ensures.after ∙ lists_stay c.args.sets.now (c.args.l % g.row.SETS) c.args.l _ (entry_of c.args.l (slice_index_or c.args.sets.now (c.args.l % g.row.SETS) [])) missed in
+    rw missed (rw same at c.fill.ensures.below)
+
+pub returns-in-None-clause-events : goal.returns-in-None-clause-events
+unfolding get_in
+returns-in-None-clause-events g c =
+    let missed : entry_of c.args.l (slice_index_or c.args.sets.now (c.args.l % g.row.SETS) []) ≡ None = none_found _ (entry_of c.args.l (slice_index_or c.args.sets.now (c.args.l % g.row.SETS) [])) c.in-None.ensures.cells in
+    let same : c.read_cells.new.self ≡ c.args.sets.now = c.in-None.ensures.after ∙ lists_stay c.args.sets.now (c.args.l % g.row.SETS) c.args.l _ (entry_of c.args.l (slice_index_or c.args.sets.now (c.args.l % g.row.SETS) [])) missed in
+    rw missed (rw same at c.fill.ensures.events)

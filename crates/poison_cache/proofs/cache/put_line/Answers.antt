@@ -1,8 +1,14 @@
-use Rattle.std.proofs.Common.{◌≡◌, ◌∙◌, ◌%◌, [], None, refl, sym, ap, slice_index_or, slice_set}
+use Rattle.std.proofs.Common.{lit<, ◌≡◌, ◌∙◌, ◌%◌, [], None, refl, sym, ap, slice_index_or, slice_set}
 use Rattle.poison_cache.specs.Recent.{entry_of}
 use Rattle.poison_cache.specs.Cache.{put_in}
 use Rattle.poison_cache.proofs.Hits.{none_held, lists_stay, put_hit_entries, put_hit_below, put_hit_events, put_miss_entries}
 use Rattle.poison_cache.proofs.cache.put_line.Goals as goal
+
+pub put_first-requires : goal.put_first-requires
+put_first-requires g c =
+    let missed : entry_of c.args.l (slice_index_or c.args.sets.now (c.args.l % g.row.SETS) []) ≡ None = none_held (entry_of c.args.l (slice_index_or c.args.sets.now (c.args.l % g.row.SETS) [])) (sym c.put_cells.ensures.held ∙ c.if-not-put_cells.true) in
+    let same : c.put_cells.new.self ≡ c.args.sets.now = c.put_cells.ensures.after ∙ lists_stay c.args.sets.now (c.args.l % g.row.SETS) c.args.l _ (entry_of c.args.l (slice_index_or c.args.sets.now (c.args.l % g.row.SETS) [])) missed in
+    (lit< tt, rw (same, missed))
 
 pub returns-then-not-put_cells-clause-sets : goal.returns-then-not-put_cells-clause-sets
 unfolding put_in

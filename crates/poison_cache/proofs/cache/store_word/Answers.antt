@@ -1,8 +1,14 @@
-use Rattle.std.proofs.Common.{◌≡◌, ◌∙◌, ◌%◌, ◌/◌, [], None, refl, sym, ap, slice_index_or, slice_set}
+use Rattle.std.proofs.Common.{lit<, ◌≡◌, ◌∙◌, ◌%◌, ◌/◌, [], None, refl, sym, ap, slice_index_or, slice_set}
 use Rattle.poison_cache.specs.Recent.{entry_of}
 use Rattle.poison_cache.specs.Cache.{get_in, store_in}
 use Rattle.poison_cache.proofs.Hits.{none_held, lists_stay, hit_below, hit_events, store_hit_entries, store_miss_entries}
 use Rattle.poison_cache.proofs.cache.store_word.Goals as goal
+
+pub put_first-requires : goal.put_first-requires
+put_first-requires g c =
+    let missed : entry_of (c.args.w / 8) (slice_index_or c.args.sets.now (c.args.w / 8 % g.row.SETS) []) ≡ None = none_held (entry_of (c.args.w / 8) (slice_index_or c.args.sets.now (c.args.w / 8 % g.row.SETS) [])) (sym c.store_cell.ensures.held ∙ c.if-not-store_cell.true) in
+    let same : c.store_cell.new.self ≡ c.args.sets.now = c.store_cell.ensures.after ∙ lists_stay c.args.sets.now (c.args.w / 8 % g.row.SETS) (c.args.w / 8) _ (entry_of (c.args.w / 8) (slice_index_or c.args.sets.now (c.args.w / 8 % g.row.SETS) [])) missed in
+    (lit< tt, rw (same, missed))
 
 pub returns-then-not-store_cell-clause-sets : goal.returns-then-not-store_cell-clause-sets
 unfolding get_in store_in
