@@ -1,3 +1,4 @@
 pub mod Stack
+pub mod StackEntries
 pub mod StackStands
 pub mod StackLaws

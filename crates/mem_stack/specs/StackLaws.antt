@@ -2,20 +2,17 @@
 use Rattle.std.proofs.Common.{ℕ, ◌^◌, ◌+◌, ◌*◌, ◌/◌, ◌%◌, ◌<◌, ◌≤◌, ◌≡◌, List, [], replicate, length, subst, sym, ap, refl, arith, map, slice_index}
 use Rattle.std.proofs.lemmas.List.{length-replicate, length-map}
 use Rattle.std.proofs.Math.ListN.{get_or-map}
-use Rattle.poison_mem.specs.ListLaws.{same_all}
 use Rattle.poison_mem.specs.declared.line.Line.{Line}
 use Rattle.poison_mem.specs.declared.cell.CellState.{CellState}
-use Rattle.poison_mem.specs.declared.cache_state.Held.{Held}
 use Rattle.poison_mem.specs.declared.record_id.RecordId.TheVariants.{L1, L2}
 use Rattle.poison_mem.specs.Bus.{KeepsWords}
 use Rattle.poison_mem.specs.Cells.{CellsKeepCounts, raised_at}
 use Rattle.poison_mem.specs.Flips.{Shows, IsFaithful, WordsKeepCounts, stored_at, renewed_at}
 use Rattle.poison_mem.specs.Line.{cell}
 use Rattle.poison_mem.specs.Level.{InRange, LineShows, LinesKeepWords, LinesKeepCounts, KeepsLines, CellsKeepLines}
-use Rattle.poison_cache.specs.declared.sets.TheConstants.{MOST_HELD}
-use Rattle.poison_cache.specs.Sound.{IsSoundCache, IsSoundList}
 use Rattle.poison_cache.specs.Cache.{cache_calls}
 use Rattle.poison_cache.specs.WordsLaws.{cache_keeps_words, store_words}
+use Rattle.poison_cache.specs.EntriesLaws.{no_lines_sound, cache_keeps_entries}
 use Rattle.poison_cache.specs.CountsLaws.{cache_cells_keep_counts, cache_lines_keep_counts, store_counts}
 use Rattle.poison_cache.specs.StandingLaws.{cache_keeps_lines, cache_cells_keep_lines, store-keeps, store-valid, empty-stands}
 use Rattle.ecc_memory.specs.Word.{codeword_of}
@@ -114,16 +111,6 @@ stack_faithful = record {
   scrub_keeps = λ s w f q inside it.
       kept s (stack_flips.cells.scrub s w).after f f q q it (stack_cells_keep_counts.scrub_words s w) (stack_cells_keep_lines.scrub_valid s w it.valid inside)
       (λ l stood. stack_cells_keep_lines.scrub_keeps s w l f q it.valid inside stood);
-}
-
-no_lines_sound : (sets ways words : ℕ) → 1 ≤ sets → 1 ≤ ways → sets * ways ≤ MOST_HELD → IsSoundCache sets ways words (replicate sets [])
-no_lines_sound sets ways words some some_way small = record {
-  some = some;
-  some_way = some_way;
-  small = small;
-  count = length-replicate sets [];
-  each = λ set below. subst (λ entries. IsSoundList words sets set entries) (sym (same_all sets set [])) tt;
-  most = λ set below. subst (λ (entries : List Held). length entries ≤ ways) (sym (same_all sets set [])) (omega arith);
 }
 
 -- a stack that holds no line stands for what its memory stands for

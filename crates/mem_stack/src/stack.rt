@@ -1,13 +1,16 @@
 //! The stack.
 
-ghost use Rattle.std.specs.Prelude.{◌≡◌, ◌≤◌, ◌%◌, ℕ, replicate, IfOk};
+ghost use Rattle.std.specs.Prelude.{◌≡◌, ◌<◌, ◌≤◌, ◌%◌, ℕ, replicate, slice_get, IfOk};
 ghost use Rattle.ras_bits.specs.declared.map.TheConstants.{MOST_WORDS};
-ghost use Rattle.mem_stack.specs.Stack.{loaded_stack};
+ghost use Rattle.mem_stack.specs.Stack.{loaded_stack, stack_meaning};
+ghost use Rattle.mem_stack.specs.StackEntries.{IsCacheLevel, sets_of, first_entries, second_entries, FirstHasRoomFor, SecondHasRoomFor, forgotten};
 ghost use Rattle.mem_stack.specs.StackStands.{StackStands};
 
 use ecc_memory::EccMemory;
 use poison_cache::Cache;
-use poison_mem::{Bus, Cell, CellState, EventLog, FlipBus, FlipMem, LineMem, RecordId};
+use poison_mem::{
+    Bus, CacheState, Cell, CellState, EventLog, FlipBus, FlipMem, Held, LineMem, RecordId,
+};
 use ras_bits::NoMemory;
 use std::alloc::Global;
 use std::marker::Model;
@@ -68,6 +71,47 @@ impl Stack {
         let l2 = L2::make(alloc, memory, RecordId::L2.bank(), RecordId::L2.record())?;
         let l1 = L1::make(alloc, l2, RecordId::L1.bank(), RecordId::L1.record())?;
         Ok(Stack { l1 })
+    }
+
+    /// The entry `k` of the list of a set of the first cache at level 1, of the second at level 2, counted from 0 and the
+    /// most recently used first; `None` exactly where the list is shorter.
+    pub fn held(&self, level: u8, set: u32, k: u32) -> Option<Held>
+        requires level { IsCacheLevel level }
+        requires set { set < sets_of level }
+        ensures first { level ≡ 1 → result ≡ slice_get (first_entries.listed self.now set) k }
+        ensures second { level ≡ 2 → result ≡ slice_get (second_entries.listed self.now.below set) k }
+    {
+        if level == 1 {
+            self.l1.held(set, k)
+        } else {
+            self.l1.below_held(set, k)
+        }
+    }
+
+    /// Empties all lists of both caches, and writes nothing back. What was stored and not yet written back is lost.
+    pub fn forget_all(&mut self)
+        ensures after { self.new ≡ forgotten self.old }
+        ensures words { stack_meaning.words self.new ≡ stack_meaning.words self.old }
+    {
+        self.l1.forget_all();
+        self.l1.below_forget_all();
+    }
+
+    /// Appends an entry to the list of its set of the first cache at level 1, of the second at level 2. The line is in
+    /// range and not held by that cache, and the set has a way left.
+    pub fn place_last(&mut self, level: u8, h: &Held)
+        requires level { IsCacheLevel level }
+        requires first { level ≡ 1 → FirstHasRoomFor self.old h.now }
+        requires second { level ≡ 2 → SecondHasRoomFor self.old h.now }
+        ensures first { level ≡ 1 → self.new ≡ first_entries.place_last self.old h.now }
+        ensures second { level ≡ 2 → self.new ≡ record self.old { below = second_entries.place_last self.old.below h.now } }
+        ensures words { stack_meaning.words self.new ≡ stack_meaning.words self.old }
+    {
+        if level == 1 {
+            self.l1.place_last(h);
+        } else {
+            self.l1.below_place_last(h);
+        }
     }
 }
 
