@@ -1,13 +1,43 @@
-//! The memory of a console call.
+//! Debug console extension, "DBCN".
 
 ghost use Rattle.std.specs.Prelude.{◌≡◌, ℕ, ◌+◌, ◌<◌, ◌↔◌, IsSome, true};
 ghost use Rattle.ras_bits.specs.Map.{is_ram};
-ghost use Rattle.sbi_calls.specs.Span.{span_of};
+ghost use Rattle.sbi_calls.specs.Console.{console_call, span_of};
 
+use crate::call::{Request, SbiCall};
 use ras_bits::{RAM_START, word_address};
+
+/// The number of the extension: the letters DBCN.
+pub(crate) const NUMBER: u64 = 0x4442_434E;
 
 /// The most bytes that one console call takes.
 pub const MOST_BYTES: u64 = 4096;
+
+/// Of a byte to be written the low 8 bits of a0 are taken.
+pub(crate) fn call(request: Request) -> SbiCall
+    ensures { result ≡ console_call request }
+{
+    let Request {
+        function,
+        a0,
+        a1,
+        a2,
+    } = request;
+    match function {
+        0 => SbiCall::ConWrite {
+            n: a0,
+            lo: a1,
+            hi: a2,
+        },
+        1 => SbiCall::ConRead {
+            n: a0,
+            lo: a1,
+            hi: a2,
+        },
+        2 => SbiCall::ConByte((a0 % 256) as u8),
+        _ => SbiCall::Unknown,
+    }
+}
 
 /// The bytes of a console call that names `n` bytes at the physical address `hi` · 2^64 + `lo`, in a
 /// machine whose RAM has `words` words of 64 bits: the address of the first byte and the number of the
