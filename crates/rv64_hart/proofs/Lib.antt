@@ -1,4 +1,7 @@
 pub mod Walks
 pub mod Transfers
 pub mod Numbers
-pub mod Stops
+pub mod Endings
+pub mod HartStates
+pub mod Pages
+pub mod HartsLemmas

@@ -1,27 +1,31 @@
 -- Loads, stores and atomic operations (unprivileged manual, "Load and Store Instructions" and chapter "A").
-use Rattle.std.specs.Bool.{beq}
-use Rattle.std.specs.Prelude.{ℕ, Bool, false, Option, Some, None, ◌<◌, ◌==◌, ◌&&◌, if◌then◌else◌}
+use Rattle.std.specs.Prelude.{ℕ, Bool, false, Option, Some, None, ◌==◌, ◌&&◌, if◌then◌else◌}
 use Rattle.ras_bits.specs.declared.terms.Access.{Access}
+use Rattle.ras_bits.specs.Map.{word_at}
 use Rattle.poison_mem.specs.declared.cell.UseKind.{UseKind}
 use Rattle.poison_mem.specs.Asking.{Asking, asked, ◌>>=◌}
-use Rattle.rv64_decode.specs.declared.instr.AmoOp.{AmoOp}
 use Rattle.rv64_decode.specs.declared.instr.LoadOp.{LoadOp}
 use Rattle.rv64_decode.specs.declared.instr.LoadOp.TheVariants as load
 use Rattle.rv64_decode.specs.declared.instr.StoreOp.{StoreOp}
 use Rattle.rv64_decode.specs.declared.instr.StoreOp.TheVariants as store
 use Rattle.rv64_alu.specs.Results.{amo_result}
 use Rattle.rv64_hart.specs.declared.access.Width.{Width}
+use Rattle.rv64_hart.specs.declared.access.Width.TheVariants.{Word, Doubleword}
 use Rattle.rv64_hart.specs.declared.operation.Operation.{Operation}
 use Rattle.rv64_hart.specs.declared.operation.Operation.TheVariants as operation
+use Rattle.rv64_hart.specs.declared.operation.Exchange.{Exchange}
 use Rattle.rv64_hart.specs.declared.reservation.Reservation.{Reservation}
 use Rattle.rv64_hart.specs.State.{ArchitecturalState, computed, passed}
-use Rattle.rv64_hart.specs.Traps.{misaligned, trapped, raised}
-use Rattle.ras_bits.specs.Map.{word_at}
-use Rattle.rv64_hart.specs.Access.{load_width, store_width, is_aligned, first_bit, load_result, store_mask, store_value}
+use Rattle.rv64_hart.specs.Traps.{misaligned, raised}
+use Rattle.rv64_hart.specs.Access.{bytes_in, load_width, store_width, is_aligned, first_bit, load_result, store_mask, store_value}
 use Rattle.rv64_hart.specs.Outcome.{Outcome, Store, went, went_with}
 use Rattle.rv64_hart.specs.Translation.{Location, At, Refused, located}
 
--- the load of an atomic operation: .D takes a doubleword, .W a word whose sign is extended
+-- the width of an atomic operation: .D is of a doubleword, .W of a word
+abbrev pub atomic_width : Bool → Width
+atomic_width wide = if wide then Doubleword else Word
+
+-- its load, which extends the sign of a word
 abbrev pub atomic_load : Bool → LoadOp
 atomic_load wide = if wide then load.Ld else load.Lw
 
@@ -33,9 +37,9 @@ atomic_store wide = if wide then store.Sd else store.Sw
 abbrev pub width_of : Operation → Width
 width_of (operation.Load op rd) = load_width op
 width_of (operation.Store op value) = store_width op
-width_of (operation.LoadReserved wide rd) = load_width (atomic_load wide)
-width_of (operation.StoreConditional wide rd value) = store_width (atomic_store wide)
-width_of (operation.Atomic op wide rd operand) = store_width (atomic_store wide)
+width_of (operation.LoadReserved wide rd) = atomic_width wide
+width_of (operation.StoreConditional wide rd value) = atomic_width wide
+width_of (operation.Atomic exchange) = atomic_width exchange.wide
 
 -- LR is translated and refused as a load, SC and an atomic memory operation as a store
 abbrev pub kind_of : Operation → Access
@@ -43,58 +47,58 @@ kind_of (operation.Load op rd) = Access.Load
 kind_of (operation.Store op value) = Access.Store
 kind_of (operation.LoadReserved wide rd) = Access.Load
 kind_of (operation.StoreConditional wide rd value) = Access.Store
-kind_of (operation.Atomic op wide rd operand) = Access.Store
+kind_of (operation.Atomic exchange) = Access.Store
 
 -- the store of a value: its mask tells which bytes of its word change, and no word is asked for
-abbrev pub store_of : StoreOp → ℕ → ℕ → ℕ → Store
-store_of op address physical value =
-    record { w = word_at physical; value = store_value address value; mask = store_mask (store_width op) address }
+abbrev pub store_of : StoreOp → ℕ → ℕ → Store
+store_of op physical value =
+    record { w = word_at physical; value = store_value physical value; mask = store_mask (store_width op) physical }
 
 -- the hart holds a reservation of this physical address and width
-abbrev pub is_reserved : Option Reservation → ℕ → Bool → Bool
-is_reserved None physical wide = false
-is_reserved (Some r) physical wide = (r.address == physical) && beq r.wide wide
+abbrev pub is_reserved : Option Reservation → ℕ → Width → Bool
+is_reserved None physical width = false
+is_reserved (Some r) physical width = (r.address == physical) && (bytes_in r.width == bytes_in width)
 
 -- a load: it asks for the one word that holds its bytes
-unfoldable pub loaded : ArchitecturalState → LoadOp → ℕ → ℕ → ℕ → Asking Outcome
-loaded h op rd address physical = do
+unfoldable pub loaded : ArchitecturalState → LoadOp → ℕ → ℕ → Asking Outcome
+loaded h op rd physical = do
   value ← asked (word_at physical) UseKind.Load
-  went (computed h rd (load_result op value (first_bit address)))
+  went (computed h rd (load_result op value (first_bit physical)))
 
 -- LR: it loads, and reserves the address
-unfoldable pub reserved : ArchitecturalState → Bool → ℕ → ℕ → ℕ → Asking Outcome
-reserved h wide rd address physical = do
+unfoldable pub reserved : ArchitecturalState → Bool → ℕ → ℕ → Asking Outcome
+reserved h wide rd physical = do
   value ← asked (word_at physical) UseKind.Amo
-  went (computed (record h { reservation = Some (record { address = physical; wide = wide }) }) rd
-      (load_result (atomic_load wide) value (first_bit address)))
+  went (computed (record h { reservation = Some (record { address = physical; width = atomic_width wide }) }) rd
+      (load_result (atomic_load wide) value (first_bit physical)))
 
 -- SC: where the address is reserved it stores and gives 0, else it gives 1; either way no reservation is left
-unfoldable pub conditionally_stored : ArchitecturalState → Bool → ℕ → ℕ → ℕ → ℕ → Asking Outcome
-conditionally_stored h wide rd value address physical =
+unfoldable pub conditionally_stored : ArchitecturalState → Bool → ℕ → ℕ → ℕ → Asking Outcome
+conditionally_stored h wide rd value physical =
     let unreserved = record h { reservation = None } in
-    if is_reserved h.reservation physical wide
-    then went_with (computed unreserved rd 0) (store_of (atomic_store wide) address physical value)
+    if is_reserved h.reservation physical (atomic_width wide)
+    then went_with (computed unreserved rd 0) (store_of (atomic_store wide) physical value)
     else went (computed unreserved rd 1)
 
 -- an atomic memory operation: it gives the old value and stores the operation's
-unfoldable pub exchanged : ArchitecturalState → AmoOp → Bool → ℕ → ℕ → ℕ → ℕ → Asking Outcome
-exchanged h op wide rd operand address physical = do
+unfoldable pub exchanged : ArchitecturalState → Exchange → ℕ → Asking Outcome
+exchanged h x physical = do
   value ← asked (word_at physical) UseKind.Amo
-  let old = load_result (atomic_load wide) value (first_bit address) in
-      went_with (computed h rd old) (store_of (atomic_store wide) address physical (amo_result op old operand wide))
+  let old = load_result (atomic_load x.wide) value (first_bit physical) in
+      went_with (computed h x.rd old) (store_of (atomic_store x.wide) physical (amo_result x.op old x.operand x.wide))
 
--- an operation at a virtual address that goes to a physical one; both are the same byte of their word
-unfoldable pub performed : ArchitecturalState → Operation → ℕ → ℕ → Asking Outcome
-performed h (operation.Load op rd) address physical = loaded h op rd address physical
-performed h (operation.Store op value) address physical = went_with (passed h) (store_of op address physical value)
-performed h (operation.LoadReserved wide rd) address physical = reserved h wide rd address physical
-performed h (operation.StoreConditional wide rd value) address physical = conditionally_stored h wide rd value address physical
-performed h (operation.Atomic op wide rd operand) address physical = exchanged h op wide rd operand address physical
+-- an operation at a physical address
+unfoldable pub performed : ArchitecturalState → Operation → ℕ → Asking Outcome
+performed h (operation.Load op rd) physical = loaded h op rd physical
+performed h (operation.Store op value) physical = went_with (passed h) (store_of op physical value)
+performed h (operation.LoadReserved wide rd) physical = reserved h wide rd physical
+performed h (operation.StoreConditional wide rd value) physical = conditionally_stored h wide rd value physical
+performed h (operation.Atomic exchange) physical = exchanged h exchange physical
 
--- an operation once it is known where it goes
+-- an operation at a virtual address, once it is known where it goes
 abbrev pub performed_at : ArchitecturalState → Operation → ℕ → Location → Asking Outcome
-performed_at h op address (At physical) = performed h op address physical
-performed_at h op address (Refused cause) = went (trapped h cause address)
+performed_at h op address (At physical) = performed h op physical
+performed_at h op address (Refused exception) = went (raised h exception address)
 
 -- An operation at a virtual address: it is checked for alignment, then the address is translated, then checked for RAM.
 unfoldable pub accessed : ℕ → ArchitecturalState → Operation → ℕ → Asking Outcome
@@ -103,11 +107,3 @@ accessed words h op address =
       location ← located words h (kind_of op) address
       performed_at h op address location)
     else went (raised h (misaligned (kind_of op)) address)
-
--- the register that an operation gives its value to is there
-abbrev pub HasRegister : Operation → Type 0
-HasRegister (operation.Load op rd) = rd < 32
-HasRegister (operation.Store op value) = Unit {0}
-HasRegister (operation.LoadReserved wide rd) = rd < 32
-HasRegister (operation.StoreConditional wide rd value) = rd < 32
-HasRegister (operation.Atomic op wide rd operand) = rd < 32

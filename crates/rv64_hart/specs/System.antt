@@ -1,6 +1,6 @@
 -- The instructions of supervisor registers and modes (unprivileged manual, chapter "Zicsr"; privileged manual, "Trap-Return
 -- Instructions", "Wait for Interrupt" and "Supervisor Memory-Management Fence Instruction").
-use Rattle.std.specs.Prelude.{◌≡◌, ℕ, Bool, true, false, not, ◌||◌, ◌&&◌, ◌==◌, Option, Some, None, bit_and, bit_or, if◌then◌else◌}
+use Rattle.std.specs.Prelude.{ℕ, Bool, true, false, not, ◌||◌, ◌&&◌, ◌==◌, Option, Some, None, bit_and, bit_or, if◌then◌else◌}
 use Rattle.std.specs.Int.{w64, bit_not}
 use Rattle.ras_bits.specs.declared.terms.Mode.{Mode}
 use Rattle.ras_bits.specs.declared.terms.Mode.TheVariants.{User, Supervisor}
@@ -90,8 +90,3 @@ privileged_in Supervisor h word = passed h
 -- an instruction of S mode that does nothing
 unfoldable pub privileged : ArchitecturalState → ℕ → ArchitecturalState
 privileged h word = privileged_in h.mode h word
-
--- what an access leaves: the old value and the registers after it; where it isn't permitted, nothing changes
-abbrev pub CsrEnds : Option CsrAccess → ArchitecturalState → ArchitecturalState → Option ℕ → Type 0
-CsrEnds None before after answer = (answer ≡ None) × (after ≡ before)
-CsrEnds (Some access) before after answer = (answer ≡ Some access.old) × (after ≡ record before { csrs = access.file })

@@ -1,35 +1,34 @@
 -- Where an access goes: its address is translated, each page-table entry is asked for, and what it comes to must be in RAM
 -- (privileged manual, "Virtual Address Translation Process").
-use Rattle.std.specs.Prelude.{◌≡◌, ℕ, true, if◌then◌else◌}
+use Rattle.std.specs.Prelude.{ℕ, if◌then◌else◌}
 use Rattle.ras_bits.specs.declared.terms.Access.{Access}
+use Rattle.ras_bits.specs.Map.{is_ram, word_at}
 use Rattle.poison_mem.specs.declared.cell.UseKind.{UseKind}
-use Rattle.poison_mem.specs.Asking.{Asking, Answer, Ask, Played, Ended, Poisoned}
+use Rattle.poison_mem.specs.Asking.{Asking, Answer, Ask}
 use Rattle.sv39_walk.specs.declared.request.Request.{Request}
 use Rattle.sv39_walk.specs.Walking.{Walking, Done, Fault, Need, walk}
 use Rattle.rv64_hart.specs.State.{ArchitecturalState}
-use Rattle.ras_bits.specs.Map.{is_ram, word_at}
-use Rattle.rv64_hart.specs.Traps.{code_of, access_fault}
-use Rattle.rv64_hart.specs.declared.locate.Located.{Located}
-use Rattle.rv64_hart.specs.declared.locate.Located.TheVariants as found
+use Rattle.rv64_hart.specs.Traps.{access_fault, page_fault}
+use Rattle.rv64_hart.specs.declared.traps.Exception.{Exception}
 
--- an access goes to a physical address in RAM, or is refused for this cause
+-- an access goes to a physical address in RAM, or is refused by an exception
 pub data Location : Type 0 where
   At : (physical : ℕ) → Location
-  Refused : (cause : ℕ) → Location
+  Refused : (exception : Exception) → Location
 
 -- the access at a physical address: it must be in RAM
 abbrev pub in_ram : ℕ → Access → ℕ → Location
-in_ram words kind physical = if is_ram words physical then At physical else Refused (code_of (access_fault kind))
+in_ram words kind physical = if is_ram words physical then At physical else Refused (access_fault kind)
 
 -- an entry's word is asked for, where the entry is in RAM; else the access is refused
 abbrev pub entry_asked : ℕ → Access → ℕ → (ℕ → Asking Location) → Asking Location
 entry_asked words kind address go_on =
-    if is_ram words address then Ask (word_at address) UseKind.Walk go_on else Answer (Refused (code_of (access_fault kind)))
+    if is_ram words address then Ask (word_at address) UseKind.Walk go_on else Answer (Refused (access_fault kind))
 
 -- a walk through page tables in RAM
 unfoldable pub walked : ℕ → Access → Walking → Asking Location
 walked words kind (Done physical) = Answer (in_ram words kind physical)
-walked words kind (Fault cause) = Answer (Refused cause)
+walked words kind (Fault code) = Answer (Refused (page_fault kind))
 walked words kind (Need address go_on) = entry_asked words kind address (λ entry. walked words kind (go_on entry))
 
 -- what the hart asks to be translated
@@ -39,18 +38,3 @@ request_of h kind address = record { va = address; kind = kind; mode = h.mode; s
 -- where an access of this kind to a virtual address goes
 abbrev pub located : ℕ → ArchitecturalState → Access → ℕ → Asking Location
 located words h kind address = walked words kind (walk h.csrs.satp (request_of h kind address))
-
--- the play of a translation that the program found to end so
-abbrev pub located_end : {B L : Type 0} → Located → B → L → Played Location B L
-located_end (found.At physical) b log = Ended (At physical) b log
-located_end (found.Refused cause) b log = Ended (Refused cause) b log
-located_end (found.Poisoned w) b log = Poisoned w UseKind.Walk b log
-
--- what was found is in RAM
-abbrev pub IsFoundInRam : ℕ → Located → Type 0
-IsFoundInRam words (found.At physical) = is_ram words physical ≡ true
-IsFoundInRam words _ = Unit {0}
-
--- what the program finds at a physical address
-abbrev pub located_at : ℕ → Access → ℕ → Located
-located_at words kind physical = if is_ram words physical then found.At physical else found.Refused (code_of (access_fault kind))

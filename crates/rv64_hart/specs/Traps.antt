@@ -20,6 +20,9 @@ code_of exception.LoadAccessFault = 5
 code_of exception.StoreAddressMisaligned = 6
 code_of exception.StoreAccessFault = 7
 code_of exception.EnvironmentCallFromUser = 8
+code_of exception.InstructionPageFault = 12
+code_of exception.LoadPageFault = 13
+code_of exception.StorePageFault = 15
 
 -- the exception of an access that isn't aligned
 abbrev pub misaligned : Access → Exception
@@ -32,6 +35,12 @@ abbrev pub access_fault : Access → Exception
 access_fault Fetch = exception.InstructionAccessFault
 access_fault Load = exception.LoadAccessFault
 access_fault Store = exception.StoreAccessFault
+
+-- the exception of an access that no translation permits
+abbrev pub page_fault : Access → Exception
+page_fault Fetch = exception.InstructionPageFault
+page_fault Load = exception.LoadPageFault
+page_fault Store = exception.StorePageFault
 
 -- The state after a trap was entered for this cause, with this value in stval: no instruction is retired, and no
 -- register x changes.

@@ -2,7 +2,7 @@
 
 ghost use Rattle.std.specs.Prelude.{◌≡◌, true, Some, None, if◌then◌else◌};
 ghost use Rattle.ras_bits.specs.Map.{is_ram, word_at};
-ghost use Rattle.rv64_hart.specs.Access.{is_aligned, instruction_at, load_result, store_mask, store_value, first_bit, load_width, store_width};
+ghost use Rattle.rv64_hart.specs.Access.{bytes_in, is_aligned, instruction_at, load_result, store_mask, store_value, first_bit, load_width, store_width};
 
 use ras_bits::{get_field, is_ram, sext, word_at};
 use rv64_decode::{LoadOp, StoreOp};
@@ -36,6 +36,18 @@ impl Width {
             StoreOp::Sh => Width::Halfword,
             StoreOp::Sw => Width::Word,
             StoreOp::Sd => Width::Doubleword,
+        }
+    }
+
+    /// How many bytes it has.
+    pub(crate) fn bytes(self) -> u8
+        ensures { result ≡ bytes_in self }
+    {
+        match self {
+            Width::Byte => 1,
+            Width::Halfword => 2,
+            Width::Word => 4,
+            Width::Doubleword => 8,
         }
     }
 

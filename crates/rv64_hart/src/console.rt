@@ -53,6 +53,13 @@ impl Console {
         CONSOLE_ROOM - self.written.len()
     }
 
+    /// Empties the console, which keeps its room.
+    pub fn reset(&mut self)
+        ensures { self.new ≡ [] }
+    {
+        self.written.clear();
+    }
+
     /// Writes bytes behind the others. They fit.
     pub fn push(&mut self, b: &[u8])
         requires { length self.old + length b.now ≤ CONSOLE_ROOM }

@@ -1,48 +1,65 @@
 //! What a hart keeps between two steps.
 
-ghost use Rattle.std.specs.Prelude.{◌≡◌, ◌+◌, ◌<◌, ◌%◌, ◌^◌, Some, None};
+ghost use Rattle.std.specs.Prelude.{◌≡◌, ◌↔◌, ◌<◌, ◌%◌, Some, None, IsTrue, true};
 ghost use Rattle.rv64_csr.specs.Csrs.{write_of};
 ghost use Rattle.rv64_hart.specs.Firmware.{with_timer};
-ghost use Rattle.rv64_hart.specs.System.{trap_left};
-ghost use Rattle.rv64_hart.specs.State.{reset, register, with_register, with_pc, next_pc, retired, computed, passed};
+ghost use Rattle.rv64_hart.specs.HartState.{held_of, state_of, hart_from};
 ghost use Rattle.rv64_hart.specs.Operations.{is_reserved};
+ghost use Rattle.rv64_hart.specs.Reservation.{is_reservation};
+ghost use Rattle.rv64_hart.specs.State.{reset, started_at, stopped, interrupted, saw_store, register, with_register, with_pc, next_pc, retired, computed, passed};
+ghost use Rattle.rv64_hart.specs.System.{trap_left};
 ghost use Rattle.rv64_hart.specs.Traps.{trapped};
 
+use crate::access::Width;
 use crate::reservation::Reservation;
 use ras_bits::Mode;
-use rv64_csr::Csrs;
+use rv64_csr::{CsrParts, Csrs};
 use std::marker::Model;
 
-/// A hart: its number, its pc, the registers x0 to x31, its mode, its supervisor registers, its reservation, and its
-/// place in the input.
+/// A hart: its number, whether it is started, its pc, the registers x0 to x31, its mode, its supervisor registers, and its
+/// reservation.
 ///
-/// The pc is a multiple of 4, and x0 is 0.
+/// The pc is a multiple of 4, x0 is 0, and a reservation is of a word or a doubleword, at a multiple of its width.
 #[derive(Drop)]
 pub struct Hart {
     number: u64,
+    started: bool,
     pc: u64,
     registers: [u64; 32],
     mode: Mode,
     csrs: Csrs,
     reservation: Option<Reservation>,
-    place: u64,
 }
 
 impl Model for Hart {
-    ghost use Rattle.std.specs.Prelude.{◌≡◌, ◌%◌, slice_index};
+    ghost use Rattle.std.specs.Prelude.{◌≡◌, ◌%◌, slice_index, IfSome, true};
     ghost use Rattle.rv64_hart.specs.State.{ArchitecturalState};
+    ghost use Rattle.rv64_hart.specs.Reservation.{is_reservation};
 
     ghost Value = { ArchitecturalState };
 
-    ghost view = { λ a. record { number = a.number; pc = a.pc; registers = a.registers; mode = a.mode; csrs = a.csrs; reservation = a.reservation; place = a.place } };
+    ghost view = { λ a. record { number = a.number; started = a.started; pc = a.pc; registers = a.registers; mode = a.mode; csrs = a.csrs; reservation = a.reservation } };
 
-    ghost invariant = { λ a. (a.pc % 4 ≡ 0) × (slice_index a.registers 0 ≡ 0) };
+    ghost invariant = { λ a. (a.pc % 4 ≡ 0) × (slice_index a.registers 0 ≡ 0) × (IfSome a.reservation (λ r. is_reservation r ≡ true)) };
+}
+
+/// A hart as plain numbers.
+#[derive(Clone, Copy)]
+pub struct HartState {
+    pub id: u64,
+    pub started: bool,
+    pub pc: u64,
+    pub x: [u64; 32],
+    pub mode: Mode,
+    pub csr: CsrParts,
+    /// The reservation: its physical address, and how many bytes it has, 4 or 8.
+    pub held: Option<(u64, u8)>,
 }
 
 impl Hart {
-    /// Hart `id` as it starts at `entry`, a multiple of 4: in S mode, with its number in x10 (a0), 0 in all other registers x,
-    /// and supervisor registers as `Csrs::new` has them (SBI, "Hart State Management Extension"). It holds no reservation, and
-    /// its place is the input's first byte.
+    /// Hart `id`, which is stopped, with this pc, a multiple of 4: in S mode, with its number in x10 (a0), 0 in all other
+    /// registers x, and supervisor registers as `Csrs::new` has them (SBI, "Hart State Management Extension"). It holds no
+    /// reservation.
     pub fn new(id: u64, entry: u64) -> Hart
         requires { entry % 4 ≡ 0 }
         ensures { result ≡ reset id entry }
@@ -51,13 +68,65 @@ impl Hart {
         registers[10] = id;
         Hart {
             number: id,
+            started: false,
             pc: entry,
             registers,
             mode: Mode::Supervisor,
             csrs: Csrs::new(),
             reservation: None,
-            place: 0,
         }
+    }
+
+    /// Starts the hart at an address, a multiple of 4: it is as `Hart::new` makes it, but for x11 (a1), which gets `opaque`.
+    pub fn start(&mut self, entry: u64, opaque: u64)
+        requires { entry % 4 ≡ 0 }
+        ensures { self.new ≡ started_at self.old.number entry opaque }
+    {
+        *self = Hart::new(self.number, entry);
+        self.registers[11] = opaque;
+        self.started = true;
+    }
+
+    /// Stops the hart. Nothing else changes.
+    pub fn stop(&mut self)
+        ensures { self.new ≡ stopped self.old }
+    {
+        self.started = false;
+    }
+
+    /// Whether the hart is started. A stopped one makes idle turns.
+    pub fn started(&self) -> bool
+        ensures { result ≡ self.now.started }
+    {
+        self.started
+    }
+
+    /// Makes a software interrupt pending: SSIP in sip is set, and nothing else changes.
+    pub fn ipi(&mut self)
+        ensures { self.new ≡ interrupted self.old }
+    {
+        self.csrs.write(0x144, Mode::Supervisor, 2);
+    }
+
+    /// Another hart has stored into word `w` of RAM: a reservation that lies in it is cleared.
+    pub fn saw_store(&mut self, w: u32)
+        ensures { self.new ≡ saw_store w self.old }
+    {
+        match self.reservation {
+            Some(reservation) => {
+                if reservation.lies_in(w) {
+                    self.reservation = None;
+                }
+            }
+            None => {}
+        }
+    }
+
+    /// The hart's number.
+    pub(crate) fn number(&self) -> u64
+        ensures { result ≡ self.now.number }
+    {
+        self.number
     }
 
     /// The address of the instruction that the next step fetches. It is a multiple of 4.
@@ -96,21 +165,6 @@ impl Hart {
         ensures { result.now ≡ self.now.registers }
     {
         &self.registers
-    }
-
-    /// How many bytes of the input were taken.
-    pub(crate) fn place(&self) -> u64
-        ensures { result ≡ self.now.place }
-    {
-        self.place
-    }
-
-    /// Moves the place in the input on.
-    pub(crate) fn advance_input(&mut self, bytes: u64)
-        requires { self.old.place + bytes < 2 ^ 64 }
-        ensures { self.new ≡ record self.old { place = self.old.place + bytes } }
-    {
-        self.place += bytes;
     }
 
     /// Sets a register. A write to x0 changes nothing.
@@ -192,29 +246,93 @@ impl Hart {
         self.csrs.set_timer(time);
     }
 
-    /// Reserves a physical address.
-    pub(crate) fn reserve(&mut self, physical: u64, wide: bool)
-        ensures { self.new ≡ record self.old { reservation = Some (record { address = physical; wide = wide }) } }
+    /// Reserves a word or doubleword at a physical address, a multiple of its width.
+    pub(crate) fn reserve(&mut self, physical: u64, width: Width)
+        requires { is_reservation (record { address = physical; width = width }) ≡ true }
+        ensures { self.new ≡ record self.old { reservation = Some (record { address = physical; width = width }) } }
     {
         self.reservation = Some(Reservation {
             address: physical,
-            wide,
+            width,
         });
     }
 
-    /// Whether this physical address is reserved in this width.
-    pub(crate) fn is_reserved(&self, physical: u64, wide: bool) -> bool
-        ensures { result ≡ is_reserved self.now.reservation physical wide }
+    /// Whether this physical address is reserved in this width. No reservation is left.
+    pub(crate) fn take_reservation(&mut self, physical: u64, width: Width) -> bool
+        ensures reserved { result ≡ is_reserved self.old.reservation physical width }
+        ensures after { self.new ≡ record self.old { reservation = None } }
+    {
+        let is_reserved = match self.reservation {
+            Some(reservation) => reservation.is_of(physical, width),
+            None => false,
+        };
+        self.reservation = None;
+        is_reserved
+    }
+
+    /// The reservation: its physical address, and how many bytes it has.
+    fn held(&self) -> Option<(u64, u8)>
+        ensures { result ≡ held_of self.now.reservation }
     {
         match self.reservation {
-            Some(reservation) => reservation.is_of(physical, wide),
-            None => false,
+            Some(reservation) => Some((reservation.address, reservation.width.bytes())),
+            None => None,
         }
     }
 
-    pub(crate) fn clear_reservation(&mut self)
-        ensures { self.new ≡ record self.old { reservation = None } }
+    /// Whether another hart is equal to this one in every part.
+    pub fn same(&self, o: &Hart) -> bool
+        ensures { IsTrue result ↔ (self.now ≡ o.now) }
     {
-        self.reservation = None;
+        self.number == o.number
+            && self.started == o.started
+            && self.pc == o.pc
+            && self.registers == o.registers
+            && self.mode == o.mode
+            && self.csrs.parts() == o.csrs.parts()
+            && self.held() == o.held()
+    }
+
+    /// The hart as plain numbers, from which `from_state` makes the same hart.
+    pub fn state(&self) -> HartState
+        ensures value { result ≡ state_of self.now }
+        ensures back { hart_from result ≡ Some self.now }
+    {
+        HartState {
+            id: self.number,
+            started: self.started,
+            pc: self.pc,
+            x: self.registers,
+            mode: self.mode,
+            csr: self.csrs.parts(),
+            held: self.held(),
+        }
+    }
+
+    /// The hart of these numbers.
+    ///
+    /// `None` exactly where x0 isn't 0, the pc isn't a multiple of 4, a supervisor register can't hold its number, or the
+    /// reservation's width isn't 4 or 8 or doesn't divide its address.
+    #[tactic(auto, unfolding(crate::specs::HartState::hart_from))]
+    pub fn from_state(s: &HartState) -> Option<Hart>
+        ensures { result ≡ hart_from s.now }
+    {
+        if s.x[0] != 0 || s.pc % 4 != 0 {
+            return None;
+        }
+        let csrs = Csrs::from_parts(&s.csr)?;
+        let reservation = match s.held {
+            Some((address, bytes)) => Some(Reservation::of(address, bytes)?),
+            None => None,
+        };
+        Some(Hart {
+            number: s.id,
+            started: s.started,
+            pc: s.pc,
+            registers: s.x,
+            mode: s.mode,
+            csrs,
+            reservation,
+        })
     }
 }

@@ -3,7 +3,8 @@
 ghost use Rattle.std.specs.Prelude.{◌≡◌};
 ghost use Rattle.poison_mem.specs.Asking.{play};
 ghost use Rattle.sv39_walk.specs.Progress.{left_of};
-ghost use Rattle.rv64_hart.specs.Translation.{walked, located, located_at, located_end, IsFoundInRam};
+ghost use Rattle.rv64_hart.specs.Translation.{walked, located};
+ghost use Rattle.rv64_hart.specs.Program.{located_at, located_end, IsFoundInRam, IsFoundInPage};
 
 use crate::access::ram_word;
 use crate::hart::Hart;
@@ -17,8 +18,8 @@ use sv39_walk::{Walk, WalkStep};
 pub(crate) enum Located {
     /// To this physical address, in RAM.
     At(u64),
-    /// Nowhere: it traps for this cause.
-    Refused(u64),
+    /// Nowhere: it traps with this exception.
+    Refused(Exception),
     /// A page-table entry was needed, and its word, this one, is poison.
     Poisoned(u32),
 }
@@ -31,7 +32,7 @@ fn at(words: u32, kind: Access, physical: u64) -> Located
     if is_ram(words, physical) {
         Located::At(physical)
     } else {
-        Located::Refused(Exception::access_fault(kind).code())
+        Located::Refused(Exception::access_fault(kind))
     }
 }
 
@@ -53,10 +54,10 @@ fn follow<B: Bus, G: EventLog>(
     'walk: loop {
         match walk.next() {
             WalkStep::Done(physical) => return at(words, kind, physical),
-            WalkStep::Fault(cause) => return Located::Refused(cause),
+            WalkStep::Fault(_) => return Located::Refused(Exception::page_fault(kind)),
             WalkStep::Need(address) => {
                 let Some(w) = ram_word(words, address) else {
-                    return Located::Refused(Exception::access_fault(kind).code());
+                    return Located::Refused(Exception::access_fault(kind));
                 };
                 match bus.read(w, log) {
                     Cell::Poison => return Located::Poisoned(w),
@@ -81,7 +82,7 @@ impl Hart {
         requires { words ≡ B.meaning.words bus.old }
         ensures plays { play B.meaning G.logged (located words self.now kind address) bus.old log.old ≡ located_end result bus.new log.new }
         ensures words { B.meaning.words bus.new ≡ B.meaning.words bus.old }
-        ensures in_ram { IsFoundInRam words result }
+        ensures in_page { IsFoundInPage words address result }
     {
         let csrs = self.csrs();
         let satp = csrs.satp();

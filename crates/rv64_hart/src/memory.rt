@@ -1,27 +1,28 @@
 //! Loads, stores and atomic operations (unprivileged manual, "Load and Store Instructions" and chapter "A").
 
-ghost use Rattle.std.specs.Prelude.{◌≡◌, ◌<◌, [], ◌∷◌, true};
+ghost use Rattle.std.specs.Prelude.{◌≡◌, ◌<◌, ℕ, List, [], ◌∷◌, true};
 ghost use Rattle.ras_bits.specs.Map.{is_ram};
-ghost use Rattle.rv64_hart.specs.Access.{is_aligned, load_width, store_width};
-ghost use Rattle.rv64_hart.specs.Operations.{HasRegister, accessed, performed, loaded, reserved, conditionally_stored, exchanged, width_of, atomic_load as load_of, atomic_store as store_op, store_of};
-ghost use Rattle.rv64_hart.specs.Turn.{step_of, stored};
+ghost use Rattle.rv64_hart.specs.Access.{is_aligned, load_width};
+ghost use Rattle.rv64_hart.specs.Operations.{accessed, performed, loaded, reserved, exchanged, width_of, atomic_width as width_of_atomic, store_of};
+ghost use Rattle.rv64_hart.specs.Program.{HasRegister};
+ghost use Rattle.rv64_hart.specs.Step.{scene, stepped, step_of, stored};
 
 use crate::access::{Width, loaded_value, stored_mask, stored_value};
-use crate::console::Console;
-use crate::ends::{TurnEnd, poisoned};
+use crate::ends::{Effect, TurnEnd, poisoned};
 use crate::hart::Hart;
 use crate::locate::Located;
-use crate::operation::{Operation, atomic_load, atomic_store};
+use crate::operation::{Exchange, Operation, atomic_load, atomic_store, atomic_width};
 use crate::traps::Exception;
 use poison_mem::{Bus, Cell, EventLog, UseKind};
 use ras_bits::word_at;
 use rv64_alu::amo;
-use rv64_decode::{AmoOp, LoadOp, StoreOp};
+use rv64_decode::{LoadOp, StoreOp};
 
+// An access takes no input and writes nothing to the console, wherever these stand.
 impl Hart {
     /// An operation at a virtual address: it is checked for alignment, then the address is translated, then checked for
     /// RAM, and then it is done.
-    #[tactic(auto, unfolding(crate::specs::Operations::accessed, crate::specs::Turn::finished))]
+    #[tactic(auto, unfolding(crate::specs::Operations::accessed, crate::specs::Step::finished))]
     pub(crate) fn access<B: Bus, G: EventLog>(
         &mut self,
         words: u32,
@@ -29,202 +30,158 @@ impl Hart {
         address: u64,
         bus: &mut B,
         log: &mut G,
-        con: &mut Console,
     ) -> TurnEnd
         requires bus { words ≡ B.meaning.words bus.old }
         requires rd { HasRegister operation }
-        ensures { step_of B.meaning G.logged (accessed words self.old operation address) self.old con.old bus.old log.old
-            ≡ record { answer = result; hart = self.new; bus = bus.new; log = log.new; console = con.new } }
+        ensures { (place : ℕ) (console : List ℕ) →
+            step_of B.meaning G.logged (accessed words self.old operation address) (scene self.old place console bus.old log.old)
+            ≡ stepped result (scene self.new place console bus.new log.new) }
     {
         if !operation.width().divides(address) {
             self.raise(Exception::misaligned(operation.kind()), address);
-            return TurnEnd::Went;
+            return TurnEnd::Went(Effect::Nothing);
         }
         match self.locate(words, operation.kind(), address, bus, log) {
-            Located::At(physical) => {
-                self.perform(words, operation, address, physical, bus, log, con)
-            }
-            Located::Refused(cause) => {
-                self.trap(cause, address);
-                TurnEnd::Went
+            Located::At(physical) => self.perform(words, operation, physical, bus, log),
+            Located::Refused(exception) => {
+                self.raise(exception, address);
+                TurnEnd::Went(Effect::Nothing)
             }
             Located::Poisoned(w) => poisoned(w, UseKind::Walk),
         }
     }
 
-    /// Does an operation at a virtual address that goes to a physical one.
-    #[tactic(auto, unfolding(crate::specs::Operations::performed, crate::specs::Turn::finished))]
+    /// Does an operation at a physical address.
+    #[tactic(auto, unfolding(crate::specs::Operations::performed, crate::specs::Operations::conditionally_stored, crate::specs::Step::finished))]
     fn perform<B: Bus, G: EventLog>(
         &mut self,
         words: u32,
         operation: Operation,
-        address: u64,
         physical: u64,
         bus: &mut B,
         log: &mut G,
-        con: &mut Console,
     ) -> TurnEnd
         requires bus { words ≡ B.meaning.words bus.old }
         requires rd { HasRegister operation }
-        requires aligned { is_aligned (width_of operation) address ≡ true }
+        requires aligned { is_aligned (width_of operation) physical ≡ true }
         requires in_ram { is_ram words physical ≡ true }
-        ensures { step_of B.meaning G.logged (performed self.old operation address physical) self.old con.old bus.old log.old
-            ≡ record { answer = result; hart = self.new; bus = bus.new; log = log.new; console = con.new } }
+        ensures { (place : ℕ) (console : List ℕ) →
+            step_of B.meaning G.logged (performed self.old operation physical) (scene self.old place console bus.old log.old)
+            ≡ stepped result (scene self.new place console bus.new log.new) }
     {
         match operation {
-            Operation::Load { op, rd } => {
-                self.load(words, op, rd, address, physical, bus, log, con)
-            }
+            Operation::Load { op, rd } => return self.load(words, op, rd, physical, bus, log),
             Operation::Store { op, value } => {
-                store(words, op, address, physical, value, bus, log);
+                store(words, op, physical, value, bus, log);
                 self.pass();
-                TurnEnd::Went
             }
             Operation::LoadReserved { wide, rd } => {
-                self.load_reserved(words, wide, rd, address, physical, bus, log, con)
+                return self.load_reserved(words, wide, rd, physical, bus, log);
             }
             Operation::StoreConditional { wide, rd, value } => {
-                self.store_conditional(words, wide, rd, value, address, physical, bus, log, con)
+                if self.take_reservation(physical, atomic_width(wide)) {
+                    store(words, atomic_store(wide), physical, value, bus, log);
+                    self.compute(rd, 0);
+                } else {
+                    self.compute(rd, 1);
+                }
             }
-            Operation::Atomic {
-                op,
-                wide,
-                rd,
-                operand,
-            } => self.exchange(
-                words, op, wide, rd, operand, address, physical, bus, log, con,
-            ),
+            Operation::Atomic(exchange) => {
+                return self.exchange(words, exchange, physical, bus, log);
+            }
         }
+        TurnEnd::Went(Effect::Nothing)
     }
 
     /// Loads the bytes of one word.
-    #[tactic(auto, unfolding(crate::specs::Operations::loaded, crate::specs::Turn::finished))]
+    #[tactic(auto, unfolding(crate::specs::Operations::loaded, crate::specs::Step::finished))]
     fn load<B: Bus, G: EventLog>(
         &mut self,
         words: u32,
         op: LoadOp,
         rd: u8,
-        address: u64,
         physical: u64,
         bus: &mut B,
         log: &mut G,
-        con: &mut Console,
     ) -> TurnEnd
         requires bus { words ≡ B.meaning.words bus.old }
         requires rd { rd < 32 }
-        requires aligned { is_aligned (load_width op) address ≡ true }
+        requires aligned { is_aligned (load_width op) physical ≡ true }
         requires in_ram { is_ram words physical ≡ true }
-        ensures { step_of B.meaning G.logged (loaded self.old op rd address physical) self.old con.old bus.old log.old
-            ≡ record { answer = result; hart = self.new; bus = bus.new; log = log.new; console = con.new } }
+        ensures { (place : ℕ) (console : List ℕ) →
+            step_of B.meaning G.logged (loaded self.old op rd physical) (scene self.old place console bus.old log.old)
+            ≡ stepped result (scene self.new place console bus.new log.new) }
     {
         match bus.read(word_at(words, physical), log) {
             Cell::Poison => poisoned(word_at(words, physical), UseKind::Load),
             Cell::Good(value) => {
-                self.compute(rd, loaded_value(op, value, address));
-                TurnEnd::Went
+                self.compute(rd, loaded_value(op, value, physical));
+                TurnEnd::Went(Effect::Nothing)
             }
         }
     }
 
     /// Loads a word or doubleword, and reserves it.
-    #[tactic(auto, unfolding(crate::specs::Operations::reserved, crate::specs::Turn::finished))]
+    #[tactic(auto, unfolding(crate::specs::Operations::reserved, crate::specs::Step::finished))]
     fn load_reserved<B: Bus, G: EventLog>(
         &mut self,
         words: u32,
         wide: bool,
         rd: u8,
-        address: u64,
         physical: u64,
         bus: &mut B,
         log: &mut G,
-        con: &mut Console,
     ) -> TurnEnd
         requires bus { words ≡ B.meaning.words bus.old }
         requires rd { rd < 32 }
-        requires aligned { is_aligned (load_width (load_of wide)) address ≡ true }
+        requires aligned { is_aligned (width_of_atomic wide) physical ≡ true }
         requires in_ram { is_ram words physical ≡ true }
-        ensures { step_of B.meaning G.logged (reserved self.old wide rd address physical) self.old con.old bus.old log.old
-            ≡ record { answer = result; hart = self.new; bus = bus.new; log = log.new; console = con.new } }
+        ensures { (place : ℕ) (console : List ℕ) →
+            step_of B.meaning G.logged (reserved self.old wide rd physical) (scene self.old place console bus.old log.old)
+            ≡ stepped result (scene self.new place console bus.new log.new) }
     {
         match bus.read(word_at(words, physical), log) {
             Cell::Poison => poisoned(word_at(words, physical), UseKind::Amo),
             Cell::Good(value) => {
-                self.reserve(physical, wide);
-                self.compute(rd, loaded_value(atomic_load(wide), value, address));
-                TurnEnd::Went
+                self.reserve(physical, atomic_width(wide));
+                self.compute(rd, loaded_value(atomic_load(wide), value, physical));
+                TurnEnd::Went(Effect::Nothing)
             }
         }
     }
 
-    /// Stores where the address is reserved, and leaves no reservation.
-    #[tactic(auto, unfolding(crate::specs::Operations::conditionally_stored, crate::specs::Turn::finished))]
-    fn store_conditional<B: Bus, G: EventLog>(
-        &mut self,
-        words: u32,
-        wide: bool,
-        rd: u8,
-        value: u64,
-        address: u64,
-        physical: u64,
-        bus: &mut B,
-        log: &mut G,
-        con: &mut Console,
-    ) -> TurnEnd
-        requires bus { words ≡ B.meaning.words bus.old }
-        requires rd { rd < 32 }
-        requires in_ram { is_ram words physical ≡ true }
-        ensures { step_of B.meaning G.logged (conditionally_stored self.old wide rd value address physical) self.old con.old bus.old log.old
-            ≡ record { answer = result; hart = self.new; bus = bus.new; log = log.new; console = con.new } }
-    {
-        let is_reserved = self.is_reserved(physical, wide);
-        self.clear_reservation();
-        if !is_reserved {
-            self.compute(rd, 1);
-            return TurnEnd::Went;
-        }
-        store(
-            words,
-            atomic_store(wide),
-            address,
-            physical,
-            value,
-            bus,
-            log,
-        );
-        self.compute(rd, 0);
-        TurnEnd::Went
-    }
-
     /// Exchanges the value in memory for that of an operation on it.
-    #[tactic(auto, unfolding(crate::specs::Operations::exchanged, crate::specs::Turn::finished))]
+    #[tactic(auto, unfolding(crate::specs::Operations::exchanged, crate::specs::Step::finished))]
     fn exchange<B: Bus, G: EventLog>(
         &mut self,
         words: u32,
-        op: AmoOp,
-        wide: bool,
-        rd: u8,
-        operand: u64,
-        address: u64,
+        exchange: Exchange,
         physical: u64,
         bus: &mut B,
         log: &mut G,
-        con: &mut Console,
     ) -> TurnEnd
         requires bus { words ≡ B.meaning.words bus.old }
-        requires rd { rd < 32 }
-        requires aligned { is_aligned (store_width (store_op wide)) address ≡ true }
+        requires rd { exchange.rd < 32 }
+        requires aligned { is_aligned (width_of_atomic exchange.wide) physical ≡ true }
         requires in_ram { is_ram words physical ≡ true }
-        ensures { step_of B.meaning G.logged (exchanged self.old op wide rd operand address physical) self.old con.old bus.old log.old
-            ≡ record { answer = result; hart = self.new; bus = bus.new; log = log.new; console = con.new } }
+        ensures { (place : ℕ) (console : List ℕ) →
+            step_of B.meaning G.logged (exchanged self.old exchange physical) (scene self.old place console bus.old log.old)
+            ≡ stepped result (scene self.new place console bus.new log.new) }
     {
+        let Exchange {
+            op,
+            wide,
+            rd,
+            operand,
+        } = exchange;
         match bus.read(word_at(words, physical), log) {
             Cell::Poison => poisoned(word_at(words, physical), UseKind::Amo),
             Cell::Good(word) => {
-                let old = loaded_value(atomic_load(wide), word, address);
+                let old = loaded_value(atomic_load(wide), word, physical);
                 let new = amo(op, old, operand, wide);
-                store(words, atomic_store(wide), address, physical, new, bus, log);
+                store(words, atomic_store(wide), physical, new, bus, log);
                 self.compute(rd, old);
-                TurnEnd::Went
+                TurnEnd::Went(Effect::Nothing)
             }
         }
     }
@@ -234,7 +191,6 @@ impl Hart {
 fn store<B: Bus, G: EventLog>(
     words: u32,
     op: StoreOp,
-    address: u64,
     physical: u64,
     value: u64,
     bus: &mut B,
@@ -242,12 +198,12 @@ fn store<B: Bus, G: EventLog>(
 )
     requires bus { words ≡ B.meaning.words bus.old }
     requires in_ram { is_ram words physical ≡ true }
-    ensures { stored B.meaning G.logged (store_of op address physical value ∷ []) bus.old log.old ≡ (bus.new, log.new) }
+    ensures { stored B.meaning G.logged (store_of op physical value ∷ []) bus.old log.old ≡ (bus.new, log.new) }
 {
     bus.store(
         word_at(words, physical),
-        stored_value(address, value),
-        stored_mask(Width::of_store(op), address),
+        stored_value(physical, value),
+        stored_mask(Width::of_store(op), physical),
         log,
     );
 }

@@ -1,39 +1,29 @@
 //! What an instruction does to memory.
 
 ghost use Rattle.std.specs.Prelude.{◌≡◌};
-ghost use Rattle.rv64_hart.specs.Operations.{width_of, kind_of, atomic_load, atomic_store};
+ghost use Rattle.rv64_hart.specs.Operations.{width_of, kind_of, atomic_width, atomic_load, atomic_store};
 
 use crate::access::Width;
 use ras_bits::Access;
 use rv64_decode::{AmoOp, LoadOp, StoreOp};
 
+/// An atomic memory operation.
+#[derive(Clone, Copy)]
+pub(crate) struct Exchange {
+    pub(crate) op: AmoOp,
+    pub(crate) wide: bool,
+    pub(crate) rd: u8,
+    pub(crate) operand: u64,
+}
+
 /// An operation on memory. `rd` is the register that gets its value, and `wide` is true for the forms of a doubleword.
 #[derive(Clone, Copy)]
 pub(crate) enum Operation {
-    Load {
-        op: LoadOp,
-        rd: u8,
-    },
-    Store {
-        op: StoreOp,
-        value: u64,
-    },
-    LoadReserved {
-        wide: bool,
-        rd: u8,
-    },
-    StoreConditional {
-        wide: bool,
-        rd: u8,
-        value: u64,
-    },
-    /// An atomic memory operation.
-    Atomic {
-        op: AmoOp,
-        wide: bool,
-        rd: u8,
-        operand: u64,
-    },
+    Load { op: LoadOp, rd: u8 },
+    Store { op: StoreOp, value: u64 },
+    LoadReserved { wide: bool, rd: u8 },
+    StoreConditional { wide: bool, rd: u8, value: u64 },
+    Atomic(Exchange),
 }
 
 impl Operation {
@@ -44,9 +34,10 @@ impl Operation {
         match self {
             Operation::Load { op, .. } => Width::of_load(op),
             Operation::Store { op, .. } => Width::of_store(op),
-            Operation::LoadReserved { wide, .. } => Width::of_load(atomic_load(wide)),
-            Operation::StoreConditional { wide, .. } => Width::of_store(atomic_store(wide)),
-            Operation::Atomic { wide, .. } => Width::of_store(atomic_store(wide)),
+            Operation::LoadReserved { wide, .. } | Operation::StoreConditional { wide, .. } => {
+                atomic_width(wide)
+            }
+            Operation::Atomic(exchange) => atomic_width(exchange.wide),
         }
     }
 
@@ -56,11 +47,17 @@ impl Operation {
     {
         match self {
             Operation::Load { .. } | Operation::LoadReserved { .. } => Access::Load,
-            Operation::Store { .. }
-            | Operation::StoreConditional { .. }
-            | Operation::Atomic { .. } => Access::Store,
+            Operation::Store { .. } | Operation::StoreConditional { .. } | Operation::Atomic(_) =>
+                Access::Store,
         }
     }
+}
+
+/// The width of an atomic operation.
+pub(crate) fn atomic_width(wide: bool) -> Width
+    ensures { result ≡ atomic_width wide }
+{
+    if wide { Width::Doubleword } else { Width::Word }
 }
 
 /// The load of an atomic operation.

@@ -3,9 +3,10 @@
 ghost use Rattle.std.specs.Prelude.{◌≡◌, ◌+◌, ◌-◌, ◌*◌, ◌^◌, ◌<◌, ◌≤◌, [], ◌∷◌, length, take, drop};
 ghost use Rattle.ras_bits.specs.Fields.{number_at};
 ghost use Rattle.ras_bits.specs.Map.{word_address, word_at};
-ghost use Rattle.sbi_calls.specs.declared.memory.TheConstants.{MOST_BYTES};
-ghost use Rattle.rv64_hart.specs.Firmware.{words_touched, part_of, part_stored, parts_stored, IsTouched};
-ghost use Rattle.rv64_hart.specs.Turn.{stored};
+ghost use Rattle.sbi_calls.specs.declared.console.TheConstants.{MOST_BYTES};
+ghost use Rattle.rv64_hart.specs.ConsoleCalls.{words_touched, part_of, part_stored, parts_stored, span_stored};
+ghost use Rattle.rv64_hart.specs.Program.{IsTouched};
+ghost use Rattle.rv64_hart.specs.Step.{stored};
 
 use poison_mem::{Bus, EventLog};
 use ras_bits::{u64_at, word_address, word_at};
@@ -62,7 +63,7 @@ fn store_part<B: Bus, G: EventLog>(w: u32, address: u64, bytes: &[u8], bus: &mut
 }
 
 /// Stores bytes from `address` on, one store for each word that they touch, in rising order.
-#[tactic(auto, unfolding(crate::specs::Firmware::parts_stored))]
+#[tactic(auto, unfolding(crate::specs::ConsoleCalls::parts_stored))]
 pub(crate) fn store_parts<B: Bus, G: EventLog>(
     words: u32,
     address: u64,
@@ -73,7 +74,7 @@ pub(crate) fn store_parts<B: Bus, G: EventLog>(
     requires bus { words ≡ B.meaning.words bus.old }
     requires most { length bytes.now ≤ MOST_BYTES }
     requires in_ram { IsTouched words address (length bytes.now) }
-    ensures stores { stored B.meaning G.logged (parts_stored address bytes.now (word_at address) (words_touched address (length bytes.now))) bus.old log.old ≡ (bus.new, log.new) }
+    ensures stores { stored B.meaning G.logged (span_stored address bytes.now) bus.old log.old ≡ (bus.new, log.new) }
     ensures words { B.meaning.words bus.new ≡ B.meaning.words bus.old }
 {
     if bytes.is_empty() {

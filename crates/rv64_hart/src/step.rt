@@ -1,28 +1,29 @@
 //! One step of a hart.
 
-ghost use Rattle.std.specs.Prelude.{◌≡◌, ◌≢◌, ◌↔◌, ℕ, List, true};
-ghost use Rattle.poison_mem.specs.Asking.{bus_of, play, replies_of};
-ghost use Rattle.poison_mem.specs.Asking.{IsEndOf};
-ghost use Rattle.poison_mem.specs.declared.cell.UseKind.{UseKind};
-ghost use Rattle.rv64_decode.specs.Encoding.{OperandsInRange};
+ghost use Rattle.std.specs.Prelude.{◌≡◌, ◌<◌, ◌≤◌, ℕ, true};
+ghost use Rattle.ras_bits.specs.Bits.{has_bit};
 ghost use Rattle.ras_bits.specs.Map.{is_ram};
+ghost use Rattle.poison_mem.specs.Asking.{play, replies_of, IsEndOf};
+ghost use Rattle.rv64_decode.specs.Encoding.{OperandsInRange};
+ghost use Rattle.rv64_hart.specs.Around.{around_at, around_of};
+ghost use Rattle.rv64_hart.specs.Causes.{Causes};
 ghost use Rattle.rv64_hart.specs.Outcome.{went};
-ghost use Rattle.rv64_hart.specs.State.{next_pc};
-ghost use Rattle.rv64_hart.specs.Stops.{LacksRoom};
+ghost use Rattle.rv64_hart.specs.Program.{IsTold, IsAlone};
+ghost use Rattle.rv64_hart.specs.Step.{scene, stepped, step_of};
 ghost use Rattle.rv64_hart.specs.Translation.{At};
-ghost use Rattle.rv64_hart.specs.Turn.{turn, turn_after, instruction_turn, fetched_at, executed_word, executed, called, step_of, IsAlone};
-ghost use Rattle.rv64_hart.specs.Within.{TurnWithin};
-ghost use Rattle.rv64_hart.specs.declared.ends.TurnEnd.TheVariants.{Went, Stop, Poisoned};
-ghost use Rattle.sbi_calls.specs.declared.stop.GuestStop.{GuestStop};
-ghost use Rattle.sbi_calls.specs.declared.stop.GuestStop.TheVariants.{ConsoleFull};
+ghost use Rattle.rv64_hart.specs.Turn.{turn, turn_after, instruction_turn, fetched_at, executed_word, executed, called};
+ghost use Rattle.rv64_hart.specs.Within.{TurnWithin, CanBeDone};
 
 use crate::access::instruction_in;
+use crate::around::Around;
 use crate::console::Console;
-use crate::ends::{TurnEnd, poisoned};
+use crate::ends::{Effect, TurnEnd, poisoned};
 use crate::hart::Hart;
 use crate::locate::Located;
 use crate::operands::{even, immediate, offset, upper_imm};
-use crate::operation::Operation;
+use crate::operation::{Exchange, Operation};
+use crate::parts::behind;
+use crate::peers::Peers;
 use crate::traps::Exception;
 use poison_mem::{Bus, Cell, EventLog, UseKind};
 use ras_bits::{Access, Mode, word_at};
@@ -30,99 +31,129 @@ use rv64_alu::{alu, alu_w, branch, muldiv};
 use rv64_decode::{Instr, decode};
 
 impl Hart {
-    /// One step over a bus that logs to `log`, in step `now` of the machine and with this input: a pending interrupt is
-    /// entered, or the instruction at the pc is done, or its exception is entered.
+    /// One step over a bus that logs to `log`, in step `now` of the machine: a stopped hart does nothing; else a pending
+    /// interrupt is entered, or the instruction at the pc is done, or its exception is entered.
     ///
-    /// `input` is the whole input, of which the hart keeps its place; a place at or past its length is its end.
+    /// `input` is the whole input, and `place` how many bytes of it were taken; a place at or past its length is its end.
+    /// `peers` are the harts of the machine, of which this one is one. What the step does to harts beside its own turn is
+    /// answered, and is the machine's to do.
     ///
     /// The step asks the bus for the words of its turn, at most 600, in order, before it stores any. Where the bus answers
-    /// poison, and where the console has no room for the bytes of the step, hart and console stay as they were and
+    /// poison, and where the console has no room for the bytes of the step, hart, place and console stay as they were and
     /// nothing is stored. Any other stop changes the pc alone.
-    #[tactic(auto, unfolding(crate::specs::Turn::turn, crate::specs::Turn::finished))]
     pub fn step<B: Bus, G: EventLog>(
         &mut self,
         bus: &mut B,
         log: &mut G,
         now: u64,
         input: &[u8],
+        place: &mut u64,
+        peers: Peers,
         con: &mut Console,
     ) -> TurnEnd
-        ensures step { let asked = turn (B.meaning.words bus.old) self.old now input.now in
-            step_of B.meaning G.logged asked self.old con.old bus.old log.old
-            ≡ record { answer = result; hart = self.new; bus = bus.new; log = log.new; console = con.new } }
-        ensures asks { let asked = turn (B.meaning.words bus.old) self.old now input.now in
-            let replies = replies_of B.meaning asked bus.old in
-            IsEndOf (play B.meaning G.logged asked bus.old log.old) (turn_after (B.meaning.words bus.old) self.old now input.now replies) }
-        ensures full { let asked = turn (B.meaning.words bus.old) self.old now input.now in
-            (result ≡ Stop ConsoleFull) ↔ LacksRoom con.old (play B.meaning G.logged asked bus.old log.old) }
-        ensures refused { result ≡ Stop ConsoleFull → (self.new ≡ self.old) × (con.new ≡ con.old) }
-        ensures called { (stop : GuestStop) → result ≡ Stop stop → stop ≢ ConsoleFull
-            → (self.new ≡ next_pc self.old) × (con.new ≡ con.old) }
-        ensures poisoned { (w : ℕ) (use_kind : UseKind) → result ≡ Poisoned w use_kind
-            → (self.new ≡ self.old) × (con.new ≡ con.old) }
-        ensures unstored { let asked = turn (B.meaning.words bus.old) self.old now input.now in
-            result ≢ Went → bus.new ≡ bus_of (play B.meaning G.logged asked bus.old log.old) }
-        ensures bound { TurnWithin (B.meaning.words bus.old) 600 (turn (B.meaning.words bus.old) self.old now input.now) }
+        requires harts { (1 ≤ peers.harts) × (peers.harts ≤ 4) }
+        requires own { (self.old.number < peers.harts) × (has_bit peers.started self.old.number ≡ self.old.started) }
+        ensures step { let around = around_at (B.meaning.words bus.old) peers now input.now place.old in
+            step_of B.meaning G.logged (turn around self.old) (scene self.old place.old con.old bus.old log.old)
+            ≡ stepped result (scene self.new place.new con.new bus.new log.new) }
+        ensures asks { let around = around_at (B.meaning.words bus.old) peers now input.now place.old in
+            let replies = replies_of B.meaning (turn around self.old) bus.old in
+            IsEndOf (play B.meaning G.logged (turn around self.old) bus.old log.old) (turn_after around self.old replies) }
+        ensures causes { let around = around_at (B.meaning.words bus.old) peers now input.now place.old in
+            Causes (scene self.old place.old con.old bus.old log.old)
+            (play B.meaning G.logged (turn around self.old) bus.old log.old)
+            (stepped result (scene self.new place.new con.new bus.new log.new)) }
+        ensures bound { let around = around_at (B.meaning.words bus.old) peers now input.now place.old in
+            TurnWithin (B.meaning.words bus.old) 600 self.old (turn around self.old) }
+        ensures number { self.new.number ≡ self.old.number }
+        ensures started { self.new.started ≡ self.old.started }
+        ensures effect { CanBeDone result }
         ensures words { B.meaning.words bus.new ≡ B.meaning.words bus.old }
     {
-        let words = bus.words();
-        match self.csrs().pending(now, self.mode()) {
-            Some(cause) => {
-                self.trap(cause, 0);
-                TurnEnd::Went
-            }
-            None => self.step_instruction(words, now, input, bus, log, con),
-        }
+        let around = Around {
+            words: bus.words(),
+            peers,
+            now,
+            input: behind(input, *place),
+        };
+        self.take_turn(around, place, bus, log, con)
     }
 
-    /// A step in which no interrupt is taken.
-    #[tactic(auto, unfolding(crate::specs::Turn::instruction_turn, crate::specs::Turn::fetched_at, crate::specs::Turn::finished))]
-    fn step_instruction<B: Bus, G: EventLog>(
+    /// A step: nothing where the hart is stopped, else the interrupt that is pending, or an instruction.
+    #[tactic(auto, unfolding(crate::specs::Turn::turn, crate::specs::Step::finished))]
+    fn take_turn<B: Bus, G: EventLog>(
         &mut self,
-        words: u32,
-        now: u64,
-        input: &[u8],
+        around: Around<'_>,
+        place: &mut u64,
         bus: &mut B,
         log: &mut G,
         con: &mut Console,
     ) -> TurnEnd
-        requires { words ≡ B.meaning.words bus.old }
-        ensures { step_of B.meaning G.logged (instruction_turn words self.old now input.now) self.old con.old bus.old log.old
-            ≡ record { answer = result; hart = self.new; bus = bus.new; log = log.new; console = con.new } }
+        requires { IsTold (B.meaning.words bus.old) place.old (around_of around) }
+        ensures { step_of B.meaning G.logged (turn (around_of around.entry) self.old)
+            (scene self.old place.old con.old bus.old log.old)
+            ≡ stepped result (scene self.new place.new con.new bus.new log.new) }
+    {
+        if !self.started() {
+            return TurnEnd::Went(Effect::Nothing);
+        }
+        match self.csrs().pending(around.now, self.mode()) {
+            Some(cause) => {
+                self.trap(cause, 0);
+                TurnEnd::Went(Effect::Nothing)
+            }
+            None => self.step_instruction(around, place, bus, log, con),
+        }
+    }
+
+    /// A step in which no interrupt is taken.
+    #[tactic(auto, unfolding(crate::specs::Turn::instruction_turn, crate::specs::Turn::fetched_at, crate::specs::Step::finished))]
+    fn step_instruction<B: Bus, G: EventLog>(
+        &mut self,
+        around: Around<'_>,
+        place: &mut u64,
+        bus: &mut B,
+        log: &mut G,
+        con: &mut Console,
+    ) -> TurnEnd
+        requires { IsTold (B.meaning.words bus.old) place.old (around_of around) }
+        ensures { step_of B.meaning G.logged (instruction_turn (around_of around.entry) self.old)
+            (scene self.old place.old con.old bus.old log.old)
+            ≡ stepped result (scene self.new place.new con.new bus.new log.new) }
     {
         let pc = self.pc();
-        match self.locate(words, Access::Fetch, pc, bus, log) {
-            Located::At(physical) => self.fetch(words, now, input, physical, bus, log, con),
-            Located::Refused(cause) => {
-                self.trap(cause, pc);
-                TurnEnd::Went
+        match self.locate(around.words, Access::Fetch, pc, bus, log) {
+            Located::At(physical) => self.fetch(around, physical, place, bus, log, con),
+            Located::Refused(exception) => {
+                self.raise(exception, pc);
+                TurnEnd::Went(Effect::Nothing)
             }
             Located::Poisoned(w) => poisoned(w, UseKind::Walk),
         }
     }
 
     /// Fetches the instruction at a physical address, and does it.
-    #[tactic(auto, unfolding(crate::specs::Turn::fetched_at, crate::specs::Turn::finished))]
+    #[tactic(auto, unfolding(crate::specs::Turn::fetched_at, crate::specs::Step::finished))]
     fn fetch<B: Bus, G: EventLog>(
         &mut self,
-        words: u32,
-        now: u64,
-        input: &[u8],
+        around: Around<'_>,
         physical: u64,
+        place: &mut u64,
         bus: &mut B,
         log: &mut G,
         con: &mut Console,
     ) -> TurnEnd
-        requires bus { words ≡ B.meaning.words bus.old }
-        requires in_ram { is_ram words physical ≡ true }
-        ensures { step_of B.meaning G.logged (fetched_at words self.old now input.now (At physical)) self.old con.old bus.old log.old
-            ≡ record { answer = result; hart = self.new; bus = bus.new; log = log.new; console = con.new } }
+        requires told { IsTold (B.meaning.words bus.old) place.old (around_of around) }
+        requires in_ram { is_ram around.words physical ≡ true }
+        ensures { step_of B.meaning G.logged (fetched_at (around_of around.entry) self.old (At physical))
+            (scene self.old place.old con.old bus.old log.old)
+            ≡ stepped result (scene self.new place.new con.new bus.new log.new) }
     {
-        match bus.read(word_at(words, physical), log) {
-            Cell::Poison => poisoned(word_at(words, physical), UseKind::Fetch),
+        match bus.read(word_at(around.words, physical), log) {
+            Cell::Poison => poisoned(word_at(around.words, physical), UseKind::Fetch),
             Cell::Good(value) => {
                 let word = instruction_in(self.pc(), value);
-                self.execute_word(words, now, input, word, bus, log, con)
+                self.execute_word(around, word, place, bus, log, con)
             }
         }
     }
@@ -131,38 +162,38 @@ impl Hart {
     #[tactic(auto, unfolding(crate::specs::Turn::executed_word))]
     fn execute_word<B: Bus, G: EventLog>(
         &mut self,
-        words: u32,
-        now: u64,
-        input: &[u8],
+        around: Around<'_>,
         word: u32,
+        place: &mut u64,
         bus: &mut B,
         log: &mut G,
         con: &mut Console,
     ) -> TurnEnd
-        requires { words ≡ B.meaning.words bus.old }
-        ensures { step_of B.meaning G.logged (executed_word words self.old now input.now word) self.old con.old bus.old log.old
-            ≡ record { answer = result; hart = self.new; bus = bus.new; log = log.new; console = con.new } }
+        requires { IsTold (B.meaning.words bus.old) place.old (around_of around) }
+        ensures { step_of B.meaning G.logged (executed_word (around_of around.entry) self.old word)
+            (scene self.old place.old con.old bus.old log.old)
+            ≡ stepped result (scene self.new place.new con.new bus.new log.new) }
     {
-        self.execute(words, now, input, word, decode(word), bus, log, con)
+        self.execute(around, word, decode(word), place, bus, log, con)
     }
 
     /// Does an instruction, of this word.
-    #[tactic(auto, unfolding(crate::specs::Turn::executed, crate::specs::Turn::finished))]
+    #[tactic(auto, unfolding(crate::specs::Turn::executed, crate::specs::Step::finished))]
     fn execute<B: Bus, G: EventLog>(
         &mut self,
-        words: u32,
-        now: u64,
-        input: &[u8],
+        around: Around<'_>,
         word: u32,
         instr: Instr,
+        place: &mut u64,
         bus: &mut B,
         log: &mut G,
         con: &mut Console,
     ) -> TurnEnd
-        requires bus { words ≡ B.meaning.words bus.old }
+        requires told { IsTold (B.meaning.words bus.old) place.old (around_of around) }
         requires range { OperandsInRange instr }
-        ensures { step_of B.meaning G.logged (executed words self.old now input.now word instr) self.old con.old bus.old log.old
-            ≡ record { answer = result; hart = self.new; bus = bus.new; log = log.new; console = con.new } }
+        ensures { step_of B.meaning G.logged (executed (around_of around.entry) self.old word instr)
+            (scene self.old place.old con.old bus.old log.old)
+            ≡ stepped result (scene self.new place.new con.new bus.new log.new) }
     {
         let (operation, address) = match instr {
             Instr::Load { op, rd, rs1, imm } => {
@@ -197,31 +228,29 @@ impl Hart {
                 ..
             } => {
                 let operand = self.x(rs2);
-                (
-                    Operation::Atomic {
-                        op,
-                        wide,
-                        rd,
-                        operand,
-                    },
-                    self.x(rs1),
-                )
+                let exchange = Exchange {
+                    op,
+                    wide,
+                    rd,
+                    operand,
+                };
+                (Operation::Atomic(exchange), self.x(rs1))
             }
-            Instr::Ecall => return self.call(words, input, bus, log, con),
+            Instr::Ecall => return self.call(around, place, bus, log, con),
             _ => {
-                self.execute_alone(now, word, instr);
-                return TurnEnd::Went;
+                self.execute_alone(around, word, instr);
+                return TurnEnd::Went(Effect::Nothing);
             }
         };
-        self.access(words, operation, address, bus, log, con)
+        self.access(around.words, operation, address, bus, log)
     }
 
     /// Does an instruction, of this word, that touches the hart alone.
     #[tactic(auto, unfolding(crate::specs::Turn::executed))]
-    fn execute_alone(&mut self, now: u64, word: u32, instr: Instr)
+    fn execute_alone(&mut self, around: Around<'_>, word: u32, instr: Instr)
         requires range { OperandsInRange instr }
         requires alone { IsAlone instr }
-        ensures { (words : ℕ) (input : List ℕ) → executed words self.old now input word instr ≡ went self.new }
+        ensures { executed (around_of around.entry) self.old word instr ≡ went self.new }
     {
         match instr {
             Instr::Lui { rd, imm } => self.compute(rd, upper_imm(imm)),
@@ -251,7 +280,7 @@ impl Hart {
             Instr::Ebreak => self.raise(Exception::Breakpoint, self.pc()),
             Instr::Sret => self.return_from_trap(word),
             Instr::Wfi | Instr::SfenceVma { .. } => self.pass_privileged(word),
-            Instr::Csr { op, rd, csr, src } => self.do_csr(now, word, op, rd, csr, src),
+            Instr::Csr { op, rd, csr, src } => self.do_csr(around.now, word, op, rd, csr, src),
             Instr::Illegal(_) => self.raise_illegal(word),
             Instr::Ecall
             | Instr::Load { .. }
@@ -263,25 +292,26 @@ impl Hart {
     }
 
     /// An environment call: from U mode a trap, from S mode a call to the firmware.
-    #[tactic(auto, unfolding(crate::specs::Turn::called, crate::specs::Turn::finished))]
+    #[tactic(auto, unfolding(crate::specs::Turn::called, crate::specs::Step::finished))]
     fn call<B: Bus, G: EventLog>(
         &mut self,
-        words: u32,
-        input: &[u8],
+        around: Around<'_>,
+        place: &mut u64,
         bus: &mut B,
         log: &mut G,
         con: &mut Console,
     ) -> TurnEnd
-        requires { words ≡ B.meaning.words bus.old }
-        ensures { step_of B.meaning G.logged (called words self.old input.now) self.old con.old bus.old log.old
-            ≡ record { answer = result; hart = self.new; bus = bus.new; log = log.new; console = con.new } }
+        requires { IsTold (B.meaning.words bus.old) place.old (around_of around) }
+        ensures { step_of B.meaning G.logged (called (around_of around.entry) self.old)
+            (scene self.old place.old con.old bus.old log.old)
+            ≡ stepped result (scene self.new place.new con.new bus.new log.new) }
     {
         match self.mode() {
             Mode::User => {
                 self.raise(Exception::EnvironmentCallFromUser, 0);
-                TurnEnd::Went
+                TurnEnd::Went(Effect::Nothing)
             }
-            Mode::Supervisor => self.call_firmware(words, input, bus, log, con),
+            Mode::Supervisor => self.call_firmware(around, place, bus, log, con),
         }
     }
 }

@@ -2,7 +2,8 @@
 //! Instructions", "Wait for Interrupt" and "Supervisor Memory-Management Fence Instruction").
 
 ghost use Rattle.std.specs.Prelude.{◌≡◌, ◌<◌};
-ghost use Rattle.rv64_hart.specs.System.{is_exchange, new_value, csr_operand, csr_accessed, csr_done, CsrEnds, trap_returned, privileged};
+ghost use Rattle.rv64_hart.specs.System.{is_exchange, new_value, csr_operand, csr_accessed, csr_done, trap_returned, privileged};
+ghost use Rattle.rv64_hart.specs.Program.{CsrEnds};
 
 use crate::hart::Hart;
 use ras_bits::Mode;

@@ -1,12 +1,13 @@
 //! Exceptions (privileged manual, "Supervisor Cause Register").
 
 ghost use Rattle.std.specs.Prelude.{◌≡◌};
-ghost use Rattle.rv64_hart.specs.Traps.{code_of, misaligned, access_fault, raised, illegal};
+ghost use Rattle.sv39_walk.specs.Walking.{page_fault as walk_fault};
+ghost use Rattle.rv64_hart.specs.Traps.{code_of, misaligned, access_fault, page_fault, raised, illegal};
 
 use crate::hart::Hart;
 use ras_bits::Access;
 
-/// An exception. Page faults have the codes that the walk answers.
+/// An exception.
 #[derive(Clone, Copy)]
 pub(crate) enum Exception {
     InstructionAddressMisaligned,
@@ -20,6 +21,10 @@ pub(crate) enum Exception {
     /// A store, SC or atomic memory operation outside RAM.
     StoreAccessFault,
     EnvironmentCallFromUser,
+    InstructionPageFault,
+    LoadPageFault,
+    /// A store, SC or atomic memory operation at an address without a translation for it.
+    StorePageFault,
 }
 
 impl Exception {
@@ -37,6 +42,9 @@ impl Exception {
             Exception::StoreAddressMisaligned => 6,
             Exception::StoreAccessFault => 7,
             Exception::EnvironmentCallFromUser => 8,
+            Exception::InstructionPageFault => 12,
+            Exception::LoadPageFault => 13,
+            Exception::StorePageFault => 15,
         }
     }
 
@@ -59,6 +67,18 @@ impl Exception {
             Access::Fetch => Exception::InstructionAccessFault,
             Access::Load => Exception::LoadAccessFault,
             Access::Store => Exception::StoreAccessFault,
+        }
+    }
+
+    /// The exception of an access that no translation permits. Its code is the walk's.
+    pub(crate) fn page_fault(kind: Access) -> Exception
+        ensures value { result ≡ page_fault kind }
+        ensures code { code_of result ≡ walk_fault kind }
+    {
+        match kind {
+            Access::Fetch => Exception::InstructionPageFault,
+            Access::Load => Exception::LoadPageFault,
+            Access::Store => Exception::StorePageFault,
         }
     }
 }

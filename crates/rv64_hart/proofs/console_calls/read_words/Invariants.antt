@@ -1,7 +1,7 @@
 use Rattle.std.proofs.Common.{◌≡◌, ◌+◌, ◌-◌, ◌*◌}
 use Rattle.arrayvec.specs.ArrayVec.{array_vec_len}
 use Rattle.poison_mem.specs.Asking.{play}
-use Rattle.rv64_hart.specs.Firmware.{bytes_asked}
+use Rattle.rv64_hart.specs.ConsoleCalls.{bytes_asked}
 use Rattle.rv64_hart.proofs.console_calls.read_words.Given as goal
 
 -- what is left to be asked for is the whole

@@ -6,7 +6,7 @@ use Rattle.rv64_hart.proofs.locate.follow.Goals as goal
 pub returns-in_default-clause-plays : goal.returns-in_default-clause-plays
 returns-in_default-clause-plays g c =
     c.walk.invariant.left
-    ∙ rw (c.code.ensures, c.access_fault.ensures) (played_outside g.B.Bus.meaning g.G.EventLog.logged c.args.words c.args.kind (left_of c.walk.walk) c.in-Need.address c.walk.bus c.walk.log c.in-Need.ensures.next c.in_default.ensures)
+    ∙ rw c.access_fault.ensures (played_outside g.B.Bus.meaning g.G.EventLog.logged c.args.words c.args.kind (left_of c.walk.walk) c.in-Need.address c.walk.bus c.walk.log c.in-Need.ensures.next c.in_default.ensures)
 
 pub returns-in-Poison-clause-plays : goal.returns-in-Poison-clause-plays
 returns-in-Poison-clause-plays g c =

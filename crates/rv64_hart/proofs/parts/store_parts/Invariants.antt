@@ -1,6 +1,6 @@
 use Rattle.std.proofs.Common.{◌≡◌, ◌+◌, ◌-◌}
-use Rattle.rv64_hart.specs.Firmware.{parts_stored}
-use Rattle.rv64_hart.specs.Turn.{stored}
+use Rattle.rv64_hart.specs.ConsoleCalls.{parts_stored}
+use Rattle.rv64_hart.specs.Step.{stored}
 use Rattle.rv64_hart.proofs.parts.store_parts.Given as goal
 
 -- the stores that are left, after those that were made, are all of them

@@ -1,42 +1,38 @@
 use Rattle.std.proofs.Common.{◌∙◌, sym, ap}
 use Rattle.poison_mem.specs.AskingLaws.{play_shows}
-use Rattle.rv64_hart.specs.TurnLaws.{step_keeps_words}
+use Rattle.rv64_hart.specs.Around.{around_at}
+use Rattle.rv64_hart.specs.Step.{Stepped, scene}
+use Rattle.rv64_hart.specs.StepLaws.{step_keeps_words}
 use Rattle.rv64_hart.specs.WithinLaws.{turn_within}
-use Rattle.rv64_hart.proofs.Stops.{instruction_caused}
+use Rattle.rv64_hart.proofs.Endings.{told_turn, turn_caused, turn_stays}
 use Rattle.rv64_hart.proofs.hart.Hart.step.Goals as goal
 
-pub returns-in-None-clause-asks : goal.returns-in-None-clause-asks
-returns-in-None-clause-asks g c = play_shows g.B.Bus.meaning g.G.EventLog.logged _ _ _
+pub returns-clause-asks : goal.returns-clause-asks
+returns-clause-asks g c = play_shows g.B.Bus.meaning g.G.EventLog.logged _ _ _
 
-pub returns-in-None-clause-bound : goal.returns-in-None-clause-bound
-returns-in-None-clause-bound g c = turn_within _ _ _ _
+pub returns-clause-bound : goal.returns-clause-bound
+returns-clause-bound g c = turn_within _ _
 
-pub returns-in-None-clause-words : goal.returns-in-None-clause-words
-returns-in-None-clause-words g c =
-    ap (λ t. g.B.Bus.meaning.words t.bus) (sym c.step_instruction.ensures)
-    ∙ step_keeps_words g.B.Bus.meaning g.G.EventLog.logged _ _ _ _ _ g.met.B.Bus.keeps_words
+pub returns-clause-causes : goal.returns-clause-causes
+returns-clause-causes g c =
+    turn_caused g.B.Bus.meaning g.G.EventLog.logged
+    (around_at (g.B.Bus.meaning.words c.args.bus.now) c.args.peers c.args.now c.args.input.now c.args.place.now)
+    (scene c.args.self.now c.args.place.now c.args.con.now c.args.bus.now c.args.log.now) _
+    (told_turn g.B.Bus.meaning g.G.EventLog.logged _ _ c.args.peers c.args.now c.args.input.now _ c.args.place.now c.args.self.now _ _ c.words.ensures c.behind.ensures c.take_turn.ensures)
 
-pub returns-in-None-clause-full : goal.returns-in-None-clause-full
-returns-in-None-clause-full g c =
-    (instruction_caused g.B.Bus.meaning g.G.EventLog.logged _ _ _ _ _ _ _ _ _ _ _ _
-    c.words-words.ensures c.csrs.ensures c.mode.ensures c.pending.ensures c.in-None.is c.step_instruction.ensures).full
+pub returns-clause-number : goal.returns-clause-number
+returns-clause-number g c =
+    (turn_stays g.B.Bus.meaning g.G.EventLog.logged _ (scene c.args.self.now c.args.place.now c.args.con.now c.args.bus.now c.args.log.now) _ c.take_turn.ensures).0
 
-pub returns-in-None-clause-refused : goal.returns-in-None-clause-refused
-returns-in-None-clause-refused g c =
-    (instruction_caused g.B.Bus.meaning g.G.EventLog.logged _ _ _ _ _ _ _ _ _ _ _ _
-    c.words-words.ensures c.csrs.ensures c.mode.ensures c.pending.ensures c.in-None.is c.step_instruction.ensures).refused
+pub returns-clause-started : goal.returns-clause-started
+returns-clause-started g c =
+    (turn_stays g.B.Bus.meaning g.G.EventLog.logged _ (scene c.args.self.now c.args.place.now c.args.con.now c.args.bus.now c.args.log.now) _ c.take_turn.ensures).1
 
-pub returns-in-None-clause-called : goal.returns-in-None-clause-called
-returns-in-None-clause-called g c =
-    (instruction_caused g.B.Bus.meaning g.G.EventLog.logged _ _ _ _ _ _ _ _ _ _ _ _
-    c.words-words.ensures c.csrs.ensures c.mode.ensures c.pending.ensures c.in-None.is c.step_instruction.ensures).called
+pub returns-clause-effect : goal.returns-clause-effect
+returns-clause-effect g c =
+    (turn_stays g.B.Bus.meaning g.G.EventLog.logged _ (scene c.args.self.now c.args.place.now c.args.con.now c.args.bus.now c.args.log.now) _ c.take_turn.ensures).2
 
-pub returns-in-None-clause-poisoned : goal.returns-in-None-clause-poisoned
-returns-in-None-clause-poisoned g c =
-    (instruction_caused g.B.Bus.meaning g.G.EventLog.logged _ _ _ _ _ _ _ _ _ _ _ _
-    c.words-words.ensures c.csrs.ensures c.mode.ensures c.pending.ensures c.in-None.is c.step_instruction.ensures).poisoned
-
-pub returns-in-None-clause-unstored : goal.returns-in-None-clause-unstored
-returns-in-None-clause-unstored g c =
-    (instruction_caused g.B.Bus.meaning g.G.EventLog.logged _ _ _ _ _ _ _ _ _ _ _ _
-    c.words-words.ensures c.csrs.ensures c.mode.ensures c.pending.ensures c.in-None.is c.step_instruction.ensures).unstored
+pub returns-clause-words : goal.returns-clause-words
+returns-clause-words g c =
+    ap (λ (t : Stepped _ _). g.B.Bus.meaning.words t.after.bus) (sym c.take_turn.ensures)
+    ∙ step_keeps_words g.B.Bus.meaning g.G.EventLog.logged _ (scene c.args.self.now c.args.place.now c.args.con.now c.args.bus.now c.args.log.now) g.met.B.Bus.keeps_words
