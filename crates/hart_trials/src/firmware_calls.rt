@@ -1,6 +1,9 @@
 //! Calls to the firmware, by their registers.
 
-use sbi_calls::{GuestStop, SbiCall, base_answer, probe_answer, reset_of, span};
+use sbi_calls::{
+    GuestStop, SbiCall, SbiError, base_answer, probe_answer, reset_of, selected_harts, span,
+    status_answer,
+};
 
 /// The letters TIME.
 const TIMER: u64 = 0x5449_4D45;
@@ -10,6 +13,12 @@ const SYSTEM_RESET: u64 = 0x5352_5354;
 
 /// The letters DBCN.
 const DEBUG_CONSOLE: u64 = 0x4442_434E;
+
+/// The letters HSM.
+const HART_STATE: u64 = 0x48_534D;
+
+/// The letters sPI.
+const IPI: u64 = 0x73_5049;
 
 /// a7 and a6, and the call that they ask for with 0x123, 0x456 and 0x789 in a0 to a2.
 #[derive(Clone, Copy)]
@@ -79,6 +88,43 @@ fn each_call_by_its_registers(rt: HostRuntime) {
             call: SbiCall::ConByte(0x23),
         },
         Called {
+            extension: HART_STATE,
+            function: 0,
+            call: SbiCall::HartStart {
+                id: 0x123,
+                entry: 0x456,
+                opaque: 0x789,
+            },
+        },
+        Called {
+            extension: HART_STATE,
+            function: 1,
+            call: SbiCall::HartStop,
+        },
+        Called {
+            extension: HART_STATE,
+            function: 2,
+            call: SbiCall::HartStatus(0x123),
+        },
+        Called {
+            extension: HART_STATE,
+            function: 3,
+            call: SbiCall::Unknown,
+        },
+        Called {
+            extension: IPI,
+            function: 0,
+            call: SbiCall::SendIpi {
+                mask: 0x123,
+                base: 0x456,
+            },
+        },
+        Called {
+            extension: IPI,
+            function: 1 << 32,
+            call: SbiCall::Unknown,
+        },
+        Called {
             extension: 0x00,
             function: 9,
             call: SbiCall::LegacyTimer(0x123),
@@ -119,11 +165,97 @@ fn each_call_by_its_registers(rt: HostRuntime) {
 fn answers_of_the_base_extension(rt: HostRuntime) {
     assert_eq!(rt; [base_answer(0), base_answer(1)], [0x0200_0000, 0x5241]);
     assert_eq!(rt; [base_answer(2), base_answer(4)], [1, 0]);
-    for extension in [0x10, TIMER, SYSTEM_RESET, DEBUG_CONSOLE, 0, 1, 2, 8] {
+    for extension in [
+        0x10,
+        TIMER,
+        SYSTEM_RESET,
+        DEBUG_CONSOLE,
+        HART_STATE,
+        IPI,
+        0,
+        1,
+        2,
+        8,
+    ] {
         assert_eq!(rt; probe_answer(extension), 1, "{extension:#x}");
     }
-    for extension in [3, 9, TIMER + (1 << 32)] {
+    for extension in [3, 9, TIMER + (1 << 32), IPI + (1 << 32)] {
         assert_eq!(rt; probe_answer(extension), 0, "{extension:#x}");
+    }
+}
+
+#[test]
+fn errors_and_states_of_harts_as_numbers(rt: HostRuntime) {
+    let errors = [
+        (SbiError::NotSupported, -2),
+        (SbiError::InvalidParam, -3),
+        (SbiError::InvalidAddress, -5),
+        (SbiError::AlreadyAvailable, -6),
+    ];
+    for (error, code) in errors {
+        assert_eq!(rt; error.code().cast_signed(), code, "{error:?}");
+    }
+    assert_eq!(rt; [status_answer(true), status_answer(false)], [0, 1]);
+}
+
+/// A mask of harts with its base, how many harts there are, and which of them are selected.
+#[derive(Clone, Copy)]
+struct Selection {
+    mask: u64,
+    base: u64,
+    harts: u8,
+    selected: Option<u8>,
+}
+
+#[test]
+fn harts_of_a_mask(rt: HostRuntime) {
+    let rows = [
+        Selection {
+            mask: 0b1001,
+            base: 0,
+            harts: 4,
+            selected: Some(0b1001),
+        },
+        Selection {
+            mask: 0b11,
+            base: 2,
+            harts: 4,
+            selected: Some(0b1100),
+        },
+        Selection {
+            mask: 0b11,
+            base: 3,
+            harts: 4,
+            selected: None,
+        },
+        Selection {
+            mask: 1 << 63,
+            base: 0,
+            harts: 4,
+            selected: None,
+        },
+        Selection {
+            mask: 0b10,
+            base: u64::MAX,
+            harts: 3,
+            selected: Some(0b111),
+        },
+        Selection {
+            mask: 0b10,
+            base: u64::MAX - 1,
+            harts: 4,
+            selected: None,
+        },
+        Selection {
+            mask: 0,
+            base: 9,
+            harts: 1,
+            selected: Some(0),
+        },
+    ];
+    for row in rows {
+        let selected = selected_harts(row.mask, row.base, row.harts);
+        assert_eq!(rt; selected, row.selected, "{:#x} {:#x}", row.mask, row.base);
     }
 }
 

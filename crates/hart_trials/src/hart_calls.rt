@@ -2,7 +2,7 @@
 
 use crate::hart_guest::{
     ARGUMENTS, AT_CALL, BASE, BEHIND_CALL, CALLS, Call, DEBUG_CONSOLE, GETCHAR, Guest,
-    INVALID_PARAM, NOT_SUPPORTED, ONES, PUTCHAR, SYSTEM_RESET,
+    INVALID_PARAM, NOT_SUPPORTED, ONES, PUTCHAR, SYSTEM_RESET, WENT,
 };
 use ras_bits::RAM_START;
 use rv64_hart::{Console, TurnEnd};
@@ -27,7 +27,7 @@ fn each_kind_of_answer_by_hand(rt: HostRuntime) -> Result<(), Fail> {
                 function: 1,
                 arguments: [9, 9, 9],
             },
-            end: TurnEnd::Went,
+            end: WENT,
             a0: 0,
             a1: 0x5241,
         },
@@ -37,7 +37,7 @@ fn each_kind_of_answer_by_hand(rt: HostRuntime) -> Result<(), Fail> {
                 function: 7,
                 arguments: [9, 9, 9],
             },
-            end: TurnEnd::Went,
+            end: WENT,
             a0: NOT_SUPPORTED,
             a1: 0,
         },
@@ -47,7 +47,7 @@ fn each_kind_of_answer_by_hand(rt: HostRuntime) -> Result<(), Fail> {
                 function: 0,
                 arguments: [3, 0, 9],
             },
-            end: TurnEnd::Went,
+            end: WENT,
             a0: INVALID_PARAM,
             a1: 0,
         },
@@ -57,7 +57,7 @@ fn each_kind_of_answer_by_hand(rt: HostRuntime) -> Result<(), Fail> {
                 function: 7,
                 arguments: [0x148, 9, 9],
             },
-            end: TurnEnd::Went,
+            end: WENT,
             a0: 0,
             a1: 9,
         },
@@ -99,7 +99,7 @@ fn a_console_write_of_parts_of_words(rt: HostRuntime) -> Result<(), Fail> {
         function: 0,
         arguments: [13, RAM_START + 0x86, 0],
     };
-    assert_eq!(rt; guest.call(call, &[], &mut console), TurnEnd::Went);
+    assert_eq!(rt; guest.call(call, &[], &mut console), WENT);
     assert_eq!(rt; guest.registers(), [0, 0, 0, 13]);
     assert_eq!(rt; console.bytes(), b"GHIJKLMNOPQRS".as_slice());
     Ok(())
@@ -200,7 +200,7 @@ fn console_reads_take_the_input_in_order(rt: HostRuntime) -> Result<(), Fail> {
         words,
     } in rows {
         let end = guest.call(call, b"abcdefghij", &mut console);
-        assert_eq!(rt; end, TurnEnd::Went, "{call:?}");
+        assert_eq!(rt; end, WENT, "{call:?}");
         assert_eq!(rt; guest.registers(), [0, 0, a0, a1], "{call:?}");
         assert_eq!(rt; [guest.word(16), guest.word(17)], words, "{call:?}");
         assert_eq!(rt; guest.word(18), 0, "{call:?}");
@@ -252,7 +252,7 @@ fn the_console_is_full_at_the_byte_that_does_not_fit(rt: HostRuntime) -> Result<
             extension: DEBUG_CONSOLE,
             function: 0,
             argument: 1,
-            end: TurnEnd::Went,
+            end: WENT,
             room: 1,
         },
         Written {
@@ -266,7 +266,7 @@ fn the_console_is_full_at_the_byte_that_does_not_fit(rt: HostRuntime) -> Result<
             extension: PUTCHAR,
             function: 0,
             argument: 0x41,
-            end: TurnEnd::Went,
+            end: WENT,
             room: 0,
         },
         Written {
@@ -294,7 +294,7 @@ fn the_console_is_full_at_the_byte_that_does_not_fit(rt: HostRuntime) -> Result<
             extension: DEBUG_CONSOLE,
             function: 0,
             argument: 0,
-            end: TurnEnd::Went,
+            end: WENT,
             room: 0,
         },
     ];

@@ -2,7 +2,7 @@
 
 use poison_mem::{Bus, Cell, FlatMem, NoLog};
 use ras_bits::{NoMemory, RAM_START};
-use rv64_hart::{Console, Hart, TurnEnd};
+use rv64_hart::{Console, Effect, Hart, Peers, TurnEnd};
 use std::alloc::Global;
 
 /// The value of a word in memory. Its lower half is negative, and so is the whole.
@@ -48,11 +48,28 @@ pub(crate) struct Call {
     pub(crate) arguments: [u64; 3],
 }
 
-/// A hart and its memory.
+/// The end of a step with which the machine goes on, and no hart but its own is touched.
+pub(crate) const WENT: TurnEnd = TurnEnd::Went(Effect::Nothing);
+
+/// A hart, its memory, and how many bytes of the input it took.
 #[derive(Drop)]
 pub(crate) struct Guest {
     pub(crate) hart: Hart,
     pub(crate) memory: FlatMem,
+    pub(crate) place: u64,
+}
+
+/// Hart 0, started at an address with this value in a0.
+pub(crate) fn hart_at(entry: u64, a0: u64) -> Hart {
+    let hart = Hart::new(0, RAM_START);
+    let mut state = hart.state();
+    state.started = true;
+    state.pc = entry;
+    state.x[10] = a0;
+    match Hart::from_state(&state) {
+        Some(hart) => hart,
+        None => hart,
+    }
 }
 
 /// Instruction `i` of a program, 0 behind its end.
@@ -73,8 +90,9 @@ impl Guest {
         a0: u64,
     ) -> Result<Guest, NoMemory> {
         let mut guest = Guest {
-            hart: Hart::new(a0, RAM_START),
+            hart: hart_at(RAM_START, a0),
             memory: FlatMem::make(alloc, words)?,
+            place: 0,
         };
         for w in 0..guest.memory.words() {
             let i = 2 * w as usize;
@@ -120,21 +138,36 @@ impl Guest {
         [csrs.sstatus % 0x1_0000_0000, csrs.retired]
     }
 
-    /// One step, in step `now` of the machine.
+    /// One step, in step `now` of a machine with one hart. A guest whose hart isn't started makes none.
     pub(crate) fn step(&mut self, now: u64, input: &[u8], console: &mut Console) -> TurnEnd {
-        self.hart
-            .step(&mut self.memory, &mut NoLog, now, input, console)
+        let state = self.hart.state();
+        if state.id != 0 || !state.started {
+            return WENT;
+        }
+        let alone = Peers {
+            harts: 1,
+            started: 1,
+        };
+        self.hart.step(
+            &mut self.memory,
+            &mut NoLog,
+            now,
+            input,
+            &mut self.place,
+            alone,
+            console,
+        )
     }
 
-    /// Steps 0 to `n` - 1 of the machine. The first end that isn't `Went`, if there is one.
+    /// Steps 0 to `n` - 1 of the machine. The first end that isn't `WENT`, if there is one.
     pub(crate) fn run(&mut self, n: u64, console: &mut Console) -> TurnEnd {
         for now in 0..n {
             let end = self.step(now, &[], console);
-            if end != TurnEnd::Went {
+            if end != WENT {
                 return end;
             }
         }
-        TurnEnd::Went
+        WENT
     }
 
     /// Makes a call by the program `CALLS`.

@@ -1,8 +1,8 @@
 //! Instructions of one hart over plain words, by hand from the manuals.
 
-use crate::hart_guest::{DATA, Guest, NEGATIVE, OPERAND, WORD_1, WORD_8};
+use crate::hart_guest::{DATA, Guest, NEGATIVE, OPERAND, WENT, WORD_1, WORD_8};
 use ras_bits::RAM_START;
-use rv64_hart::{Console, TurnEnd};
+use rv64_hart::Console;
 use std::test::Fail;
 
 /// An instruction, how far the pc moves, and t0 afterwards.
@@ -112,7 +112,7 @@ fn each_format_and_load_by_hand(rt: HostRuntime) -> Result<(), Fail> {
         let mut guest = Guest::make(rt.alloc(), 4, &[word], a0)?;
         guest.put(1, DATA);
         let pc = RAM_START.wrapping_add(moves);
-        assert_eq!(rt; guest.run(1, &mut console), TurnEnd::Went, "{word:#x}");
+        assert_eq!(rt; guest.run(1, &mut console), WENT, "{word:#x}");
         assert_eq!(rt; guest.trap(), [pc, 0, 0, 0], "{word:#x}");
         assert_eq!(rt; guest.status(), [0, 1], "{word:#x}");
         let [zero, got, _, _] = guest.registers();
@@ -159,7 +159,7 @@ fn stores_change_their_bytes_alone(rt: HostRuntime) -> Result<(), Fail> {
         let mut guest = Guest::make(rt.alloc(), 4, &[load, word], WORD_1)?;
         guest.put(1, DATA);
         guest.put(2, OPERAND);
-        assert_eq!(rt; guest.run(2, &mut console), TurnEnd::Went, "{word:#x}");
+        assert_eq!(rt; guest.run(2, &mut console), WENT, "{word:#x}");
         let words = [guest.word(1), guest.word(2)];
         assert_eq!(rt; words, [stored, OPERAND], "{word:#x}");
         assert_eq!(rt; guest.hart.x(5), t0, "{word:#x}");
@@ -268,7 +268,7 @@ fn reservations_counts_and_new_code(rt: HostRuntime) -> Result<(), Fail> {
         guest.put(8, DATA);
         guest.put(9, 0x0070_0293); // addi t0,zero,7
         let end = guest.run(steps.len() as u64, &mut console);
-        assert_eq!(rt; end, TurnEnd::Went, "{steps:?}");
+        assert_eq!(rt; end, WENT, "{steps:?}");
         let got = [guest.hart.x(5), guest.word(8)];
         assert_eq!(rt; got, [t0, stored], "{steps:?}");
     }

@@ -1,8 +1,8 @@
 //! Accesses of one hart through page tables, by hand from the manual.
 
-use crate::hart_guest::{DATA, Guest, WORD_8};
+use crate::hart_guest::{DATA, Guest, WENT, WORD_8};
 use ras_bits::{NoMemory, RAM_START};
-use rv64_hart::{Console, TurnEnd};
+use rv64_hart::Console;
 use std::alloc::Global;
 use std::test::Fail;
 
@@ -153,7 +153,7 @@ fn loads_and_stores_through_page_tables(rt: HostRuntime) -> Result<(), Fail> {
     for row in rows {
         let mut guest = with_pages(rt.alloc(), row.sstatus, row.address, row.word)?;
         let shown = [u64::from(row.word), row.address];
-        assert_eq!(rt; guest.run(6, &mut console), TurnEnd::Went, "{shown:?}");
+        assert_eq!(rt; guest.run(6, &mut console), WENT, "{shown:?}");
         let trap = if row.cause == 0 {
             [RAM_START + 0x18, 0, 0, 0]
         } else {

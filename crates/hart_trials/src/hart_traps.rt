@@ -1,8 +1,8 @@
 //! Traps and interrupts of one hart over plain words, by hand from the manuals.
 
-use crate::hart_guest::{DATA, Guest, WORD_1, WORD_8};
+use crate::hart_guest::{DATA, Guest, WENT, WORD_1, WORD_8, hart_at};
 use ras_bits::{Mode, RAM_START};
-use rv64_hart::{Console, Hart, TurnEnd};
+use rv64_hart::Console;
 use std::test::Fail;
 
 /// Where a hart starts, a0, the instruction at word 0, and scause and stval afterwards.
@@ -131,9 +131,9 @@ fn each_exception_by_hand(rt: HostRuntime) -> Result<(), Fail> {
         let mut guest = Guest::make(rt.alloc(), 4, &[word], a0)?;
         guest.put(1, DATA);
         if entry % 4 == 0 {
-            guest.hart = Hart::new(a0, entry);
+            guest.hart = hart_at(entry, a0);
         }
-        assert_eq!(rt; guest.run(1, &mut console), TurnEnd::Went, "{word:#x}");
+        assert_eq!(rt; guest.run(1, &mut console), WENT, "{word:#x}");
         assert_eq!(rt; guest.trap(), [0, cause, value, entry], "{word:#x}");
         assert_eq!(rt; guest.status(), [0x100, 0], "{word:#x}");
         assert_eq!(rt; guest.registers(), [0, 0, a0, 0], "{word:#x}");
@@ -195,7 +195,7 @@ fn traps_from_user_mode_and_back(rt: HostRuntime) -> Result<(), Fail> {
         guest.run(4, &mut console);
         assert_eq!(rt; guest.hart.mode(), Mode::User);
         assert_eq!(rt; guest.trap(), [USER, 0, 0, USER]);
-        assert_eq!(rt; guest.run(1, &mut console), TurnEnd::Went, "{word:#x}");
+        assert_eq!(rt; guest.run(1, &mut console), WENT, "{word:#x}");
         assert_eq!(rt; guest.hart.mode(), Mode::Supervisor, "{word:#x}");
         assert_eq!(rt; guest.trap(), [HANDLER, cause, value, USER], "{word:#x}");
         assert_eq!(rt; guest.status(), [0, 4], "{word:#x}");
@@ -261,7 +261,7 @@ fn an_interrupt_is_taken_before_the_fetch(rt: HostRuntime) -> Result<(), Fail> {
         guest.put(10, 32);
         guest.put(11, 0x120);
         guest.run(12, &mut console);
-        assert_eq!(rt; guest.step(now, &[], &mut console), TurnEnd::Went, "{now}");
+        assert_eq!(rt; guest.step(now, &[], &mut console), WENT, "{now}");
         assert_eq!(rt; guest.trap(), [pc, cause, value, WORD_8], "{now}");
         assert_eq!(rt; guest.status(), [0x120, 11], "{now}");
         assert_eq!(rt; guest.hart.mode(), Mode::Supervisor, "{now}");

@@ -21,4 +21,6 @@ mod instructions;
 #[cfg(test)]
 mod page_walks;
 #[cfg(test)]
+mod several_harts;
+#[cfg(test)]
 mod supervisor_registers;
