@@ -1,4 +1,4 @@
--- The state of a bank.
+-- A bank of records.
 use Rattle.std.specs.Prelude.{ℕ}
 use Rattle.reri_bank.specs.declared.bank.BankKind.{BankKind}
 use Rattle.reri_bank.specs.declared.bank.BankKind.TheVariants.{Memory, Caches, Hart}
@@ -11,11 +11,15 @@ kind_number Memory = 0
 kind_number Caches = 1
 kind_number Hart = 2
 
--- what a bank keeps: the hart's bank has no second record, and there it stays empty
-pub record BankState : Type 0 where
+-- a bank of records of some kind: the hart's bank has no second record, and there it stays empty
+pub record BankOf (R : Type 0) : Type 0 where
   pub kind : BankKind
-  pub first : RecState
-  pub second : RecState
+  pub first : R
+  pub second : R
+
+-- a bank as the code keeps it, by live registers
+abbrev pub BankState : Type 0
+BankState = BankOf RecState
 
 -- what holds of each record of a bank
 pub record AreHeld (b : BankState) : Type 0 where

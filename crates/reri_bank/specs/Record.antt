@@ -1,5 +1,5 @@
--- What a record shows of the events since its last clear (a profile of RERI 1.0, "Error bank and error record registers").
-use Rattle.std.specs.Prelude.{ℕ, ◌+◌, ◌==◌, Bool, true, false, ◌&&◌, ◌||◌, nat_lt, min, if◌then◌else◌, List, [], ◌∷◌, Option, Some, None}
+-- What a record shows of the events since its last clear (a profile of RERI 1.0, status_i and its rules of overwriting).
+use Rattle.std.specs.Prelude.{ℕ, ◌+◌, ◌==◌, Bool, true, false, ◌&&◌, ◌||◌, nat_lt, min, count_by, if◌then◌else◌, List, [], ◌∷◌, Option, Some, None}
 use Rattle.std.specs.Option.{option_map}
 use Rattle.poison_mem.specs.declared.event.Class.{Class}
 use Rattle.poison_mem.specs.declared.event.Class.TheVariants.{Corrected, Deferred, Critical}
@@ -27,10 +27,9 @@ abbrev pub kept_of : List Event → Option Event
 kept_of [] = None
 kept_of (e ∷ es) = Some (kept_with e (kept_of es))
 
--- how many events have a class
-abbrev pub of_class : ℕ → List Event → ℕ
-of_class class [] = 0
-of_class class (e ∷ es) = (if rank e.class == class then 1 else 0) + of_class class es
+-- how many events have a class of this rank
+unfoldable pub of_class : ℕ → List Event → ℕ
+of_class class es = count_by (λ e. rank e.class == class) es
 
 -- what is shown of events of which one is kept
 abbrev pub view_of_events : List Event → Event → RecordView
@@ -64,7 +63,7 @@ count_after v class = if is_corrected class && nat_lt v.cec MOST_COUNTED then v.
 abbrev pub passed_after : RecordView → Class → Bool
 passed_after v class = if is_corrected class && v.cec == MOST_COUNTED then true else v.ceco
 
--- what live registers become by one event more
+-- the running form of `rec_of`: what live registers become by one event more
 unfoldable pub with_event : Option RecordView → Event → RecordView
 with_event None e = record {
   kept = e;

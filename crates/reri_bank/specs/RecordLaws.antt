@@ -1,6 +1,7 @@
 -- What a record shows, by one event more.
 use Rattle.std.proofs.Common.{◌≡◌, ℕ, ◌+◌, ◌==◌, ◌<◌, ◌≤◌, Bool, true, false, ◌||◌, ◌&&◌, nat_lt, min, cond, List, [], ◌∷◌, ◌++◌, Option, Some, None, ◌⊎◌, inl, inr, refl, subst, ap, ◌∙◌, arith}
 use Rattle.std.proofs.lemmas.Grind.{common_steps}
+use Rattle.std.proofs.lemmas.List.Sums.{sum_by-cons}
 use Rattle.std.specs.Option.{option_map}
 use Rattle.poison_mem.specs.declared.event.Event.{Event}
 use Rattle.poison_mem.specs.declared.event.RecordView.{RecordView}
@@ -57,24 +58,39 @@ pub kept_of-append : (es : List Event) (e : Event) → kept_of (es ++ e ∷ []) 
 kept_of-append [] e = refl
 kept_of-append (x ∷ es) e = ap (λ k. Some (kept_with x k)) (kept_of-append es e) ∙ ap Some (swapped x e (kept_of es))
 
+-- how many events have a class, one by one
+pub of_class-nil : (class : ℕ) → of_class class [] ≡ 0
+unfolding of_class
+of_class-nil class = refl
+
+pub of_class-cons : (class : ℕ) (e : Event) (es : List Event) → of_class class (e ∷ es) ≡ cond (rank e.class == class) 1 0 + of_class class es
+unfolding of_class
+of_class-cons class e es = sum_by-cons (λ (x : Event). cond (rank x.class == class) 1 0) e es
+
+of_class-one : (class : ℕ) (e : Event) → of_class class (e ∷ []) ≡ cond (rank e.class == class) 1 0
+of_class-one class e = omega (arith, of_class-cons class e [], of_class-nil class)
+
 pub of_class-append : (class : ℕ) (es : List Event) (e : Event) → of_class class (es ++ e ∷ []) ≡ of_class class es + cond (rank e.class == class) 1 0
-of_class-append class [] e = omega arith
-of_class-append class (x ∷ es) e = omega (arith, of_class-append class es e)
+of_class-append class [] e = omega (arith, of_class-one class e, of_class-nil class)
+of_class-append class (x ∷ es) e = omega (arith, of_class-append class es e, of_class-cons class x (es ++ e ∷ []), of_class-cons class x es)
 
 -- the kept event is one of the events
+occurs_first : (x : Event) (es : List Event) → 1 ≤ of_class (rank x.class) (x ∷ es)
+occurs_first x es = let is = of_class-cons (rank x.class) x es in grind (arith, is)
+
 occurs_with : (x : Event) (k : Option Event) (es : List Event) → ((k' : Event) → k ≡ Some k' → 1 ≤ of_class (rank k'.class) es) → 1 ≤ of_class (rank (kept_with x k).class) (x ∷ es)
-occurs_with x None es h = grind arith
+occurs_with x None es h = occurs_first x es
 occurs_with x (Some k) es h =
     let there : 1 ≤ of_class (rank k.class) es = h k refl in
-    let here : 1 ≤ of_class (rank x.class) (x ∷ es) = grind arith in
-    let after : 1 ≤ of_class (rank k.class) (x ∷ es) = omega (arith, there) in
+    let here : 1 ≤ of_class (rank x.class) (x ∷ es) = occurs_first x es in
+    let after : 1 ≤ of_class (rank k.class) (x ∷ es) = omega (arith, there, of_class-cons (rank k.class) x es) in
     let P : Event → Type 0 = λ v. 1 ≤ of_class (rank v.class) (x ∷ es) in
     by_truth (ranks_above k x)
     (λ p. let is : k ≡ kept_with x (Some k) = rw p refl in subst P is after)
     (λ p. let is : x ≡ kept_with x (Some k) = rw p refl in subst P is here)
 
 pub kept_occurs : (x : Event) (es : List Event) → 1 ≤ of_class (rank (kept_with x (kept_of es)).class) (x ∷ es)
-kept_occurs x [] = grind arith
+kept_occurs x [] = occurs_first x []
 kept_occurs x (y ∷ es) = occurs_with x (Some (kept_with y (kept_of es))) (y ∷ es) (λ k e. let h = kept_occurs y es in grind (arith, common_steps))
 
 -- no event has a greater class
@@ -83,8 +99,8 @@ none_with c x k n h p =
     by_truth (ranks_above k x) (λ q. let p' : rank k.class < c = rw q at p in grind arith) (λ q. let p' : rank x.class < c = rw q at p in grind arith)
 
 pub none_above : (c : ℕ) (x : Event) (es : List Event) → rank (kept_with x (kept_of es)).class < c → of_class c (x ∷ es) ≡ 0
-none_above c x [] p = grind arith
-none_above c x (y ∷ es) p = none_with c x (kept_with y (kept_of es)) (of_class c (y ∷ es)) (none_above c y es) p
+none_above c x [] p = of_class-one c x ∙ grind arith
+none_above c x (y ∷ es) p = of_class-cons c x (y ∷ es) ∙ none_with c x (kept_with y (kept_of es)) (of_class c (y ∷ es)) (none_above c y es) p
 
 some_more : (n : ℕ) (b : Bool) → nat_lt 0 (n + cond b 1 0) ≡ (nat_lt 0 n || b)
 some_more n true = grind arith
@@ -130,7 +146,31 @@ view_step es k e some none =
 
 one_event : (e : Event) → rec_of (e ∷ []) ≡ Some (with_event None e)
 unfolding with_event
-one_event e = grind (arith, common_steps)
+one_event e =
+    let of = λ (c : ℕ). of_class-one c e in
+    ap Some (same_view e _ _ _ _ _ _ _ _ _ _ _ _
+    (ap (nat_lt 0) (of 0) ∙ is_one (rank e.class == 0))
+    (ap (nat_lt 0) (of 1) ∙ is_one (rank e.class == 1))
+    (ap (nat_lt 0) (of 2) ∙ is_one (rank e.class == 2))
+    (ap (nat_lt 1) (of (rank e.class)) ∙ not_two (rank e.class == rank e.class))
+    (ap (λ n. min n MOST_COUNTED) (of 0) ∙ counts_one (rank e.class == 0))
+    (ap (nat_lt MOST_COUNTED) (of 0) ∙ not_full (rank e.class == 0)))
+  where
+    is_one : (b : Bool) → nat_lt 0 (cond b 1 0) ≡ b
+    is_one true = refl
+    is_one false = refl
+
+    not_two : (b : Bool) → nat_lt 1 (cond b 1 0) ≡ false
+    not_two true = refl
+    not_two false = refl
+
+    counts_one : (b : Bool) → min (cond b 1 0) MOST_COUNTED ≡ cond b 1 0
+    counts_one true = refl
+    counts_one false = refl
+
+    not_full : (b : Bool) → nat_lt MOST_COUNTED (cond b 1 0) ≡ false
+    not_full true = refl
+    not_full false = refl
 
 -- a record's live registers are those of its events
 pub fold_law : (es : List Event) (e : Event) → rec_of (es ++ e ∷ []) ≡ Some (with_event (rec_of es) e)

@@ -1,5 +1,5 @@
--- The state of one record: as the code keeps it, and as the lists that it stands for (a profile of RERI 1.0, "Error bank and
--- error record registers").
+-- The state of one record: as the code keeps it, and as the lists that it stands for (a profile of RERI 1.0, control_i with sinv
+-- and srdp).
 use Rattle.std.specs.Prelude.{◌≡◌, ℕ, ◌<◌, ◌≤◌, not, IsTrue, Bool, false, ◌||◌, if◌then◌else◌, List, [], ◌∷◌, ◌++◌, Option, Some, None, is_some, IfSome}
 use Rattle.poison_mem.specs.declared.event.Event.{Event}
 use Rattle.reri_bank.specs.declared.layout.Control.{Control}

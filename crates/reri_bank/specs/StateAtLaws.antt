@@ -7,12 +7,12 @@ use Rattle.reri_bank.specs.State.{state_logged, state_written}
 use Rattle.reri_bank.specs.declared.layout.TheConstants.{CONTROL, STRIDE}
 use Rattle.reri_bank.specs.BankState.{BankState}
 use Rattle.reri_bank.specs.BanksState.{BanksState}
-use Rattle.reri_bank.specs.Bank.{is_hart, with_record, state_staged}
-use Rattle.reri_bank.specs.Banks.{with_bank, stamped, banks_logged, banks_written, banks_staged}
+use Rattle.reri_bank.specs.Bank.{is_hart, with_record, state_staged, bank_written}
+use Rattle.reri_bank.specs.Banks.{with_bank, with_record_of, stamped, banks_logged, banks_written, banks_staged}
 use Rattle.poison_mem.specs.RecordId.{bank_number, record_number, names_record}
 use Rattle.poison_mem.specs.declared.record_id.RecordId.{RecordId}
 use Rattle.poison_mem.specs.declared.record_id.RecordId.TheVariants.{Read, Scrub, L1, L2, Hart}
-use Rattle.reri_bank.specs.StateAt.{state_at, is_record, HaveKinds}
+use Rattle.reri_bank.specs.StateAt.{state_at, EachRecord, is_record, HaveKinds}
 
 -- a change of one record
 pub changed_at : (q p : RecordId) (f : RecState → RecState) (b : BanksState)
@@ -109,3 +109,60 @@ logged_at e p b = by_pri (nat_lt 3 e.pri)
     by_pri : (high : Bool) → state_at (cond high b (cond (names_record e.bank e.rec) to b)) p ≡ cond (not high && is_record e.bank e.rec p) (state_logged (state_at b p) (stamped b.step e)) (state_at b p)
     by_pri true = refl
     by_pri false = by_name (names_record e.bank e.rec) refl
+
+-- what holds of every state and itself, and of every state and its change, holds of each record where one is changed
+record BothRecords (Holds : RecState → RecState → Type 0) (before after : BankState) : Type 0 where
+  first : Holds before.first after.first
+  second : Holds before.second after.second
+
+pub record HoldsOfChange (Holds : RecState → RecState → Type 0) (change : RecState → RecState) : Type 0 where
+  pub itself : (s : RecState) → Holds s s
+  pub changed : (s : RecState) → Holds s (change s)
+
+in_record : (Holds : RecState → RecState → Type 0) (change : RecState → RecState) → HoldsOfChange Holds change → (first : Bool) (k : BankState)
+    → BothRecords Holds k (cond first (record { kind = k.kind; first = change k.first; second = k.second }) (record { kind = k.kind; first = k.first; second = change k.second }))
+in_record Holds change h true k = record { first = h.changed k.first; second = h.itself k.second }
+in_record Holds change h false k = record { first = h.itself k.first; second = h.changed k.second }
+
+in_bank : (Holds : RecState → RecState → Type 0) (change : BankState → BankState) → ((s : RecState) → Holds s s) → ((k : BankState) → BothRecords Holds k (change k)) → (memory caches : Bool) (b : BanksState)
+    → EachRecord Holds b (cond memory (record { memory = change b.memory; caches = b.caches; hart = b.hart; step = b.step })
+    (cond caches (record { memory = b.memory; caches = change b.caches; hart = b.hart; step = b.step }) (record { memory = b.memory; caches = b.caches; hart = change b.hart; step = b.step })))
+in_bank Holds change itself h true caches b Read = (h b.memory).first
+in_bank Holds change itself h true caches b Scrub = (h b.memory).second
+in_bank Holds change itself h true caches b L1 = itself _
+in_bank Holds change itself h true caches b L2 = itself _
+in_bank Holds change itself h true caches b Hart = itself _
+in_bank Holds change itself h false true b Read = itself _
+in_bank Holds change itself h false true b Scrub = itself _
+in_bank Holds change itself h false true b L1 = (h b.caches).first
+in_bank Holds change itself h false true b L2 = (h b.caches).second
+in_bank Holds change itself h false true b Hart = itself _
+in_bank Holds change itself h false false b Read = itself _
+in_bank Holds change itself h false false b Scrub = itself _
+in_bank Holds change itself h false false b L1 = itself _
+in_bank Holds change itself h false false b L2 = itself _
+in_bank Holds change itself h false false b Hart = (h b.hart).first
+
+pub each_changed : (Holds : RecState → RecState → Type 0) (change : RecState → RecState) → HoldsOfChange Holds change → (b : BanksState) (bank rec : ℕ)
+    → EachRecord Holds b (with_record_of b bank rec change)
+each_changed Holds change h b bank rec =
+    in_bank Holds (λ k. with_record k rec change) h.itself (in_record Holds change h (rec == 0)) (bank == 0) (bank == 1) b
+
+pub each_logged : (Holds : RecState → RecState → Type 0) (b : BanksState) (e : Event) → HoldsOfChange Holds (λ s. state_logged s (stamped b.step e)) → EachRecord Holds b (banks_logged b e)
+each_logged Holds b e h id = by_pri (nat_lt 3 e.pri) (names_record e.bank e.rec)
+  where
+    by_pri : (high named : Bool) → Holds (state_at b id) (state_at (cond high b (cond named (with_record_of b e.bank e.rec (λ s. state_logged s (stamped b.step e))) b)) id)
+    by_pri true named = h.itself _
+    by_pri false true = each_changed Holds (λ s. state_logged s (stamped b.step e)) h b e.bank e.rec id
+    by_pri false false = h.itself _
+
+pub each_written : (Holds : RecState → RecState → Type 0) → ((always_logs : Bool) (v : ℕ) → HoldsOfChange Holds (λ s. state_written always_logs s v)) → (b : BanksState) (bank offset v : ℕ)
+    → EachRecord Holds b (banks_written b bank offset v)
+each_written Holds h b bank offset v =
+    in_bank Holds (λ k. bank_written k offset v) (h true v).itself (λ k. by_offset k (offset == CONTROL) ((offset == CONTROL + STRIDE) && not (is_hart k.kind))) (bank == 0) (bank == 1) b
+  where
+    by_offset : (k : BankState) (is_first is_second : Bool)
+        → BothRecords Holds k (cond is_first (with_record k 0 (λ s. state_written (is_hart k.kind) s v)) (cond is_second (with_record k 1 (λ s. state_written (is_hart k.kind) s v)) k))
+    by_offset k true is_second = record { first = (h (is_hart k.kind) v).changed k.first; second = (h true v).itself k.second }
+    by_offset k false true = record { first = (h true v).itself k.first; second = (h (is_hart k.kind) v).changed k.second }
+    by_offset k false false = record { first = (h true v).itself k.first; second = (h true v).itself k.second }

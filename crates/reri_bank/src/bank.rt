@@ -3,13 +3,13 @@
 ghost use Rattle.std.specs.Prelude.{◌≡◌, ◌<◌, ◌≤◌, ◌==◌, ℕ, None, IfSome};
 ghost use Rattle.poison_mem.specs.declared.event.Event.{Event};
 ghost use Rattle.reri_bank.specs.Views.{IsReachable, IsOf, PriFits};
-ghost use Rattle.reri_bank.specs.State.{IsRecordHeld, RecordLists, shown};
+ghost use Rattle.reri_bank.specs.State.{IsRecordHeld, RecordLists, shown, state_logged, lists_logged, lists_written};
 ghost use Rattle.reri_bank.specs.BankState.{kind_number, AreHeld};
-ghost use Rattle.reri_bank.specs.Bank.{is_hart, with_record, with_lists, BankLists, bank_shown, record_count, record_at, bank_logged, lists_bank_logged, new_state, new_bank, new_lists, bank_written, lists_bank_written, is_control_of, bank_staged, lists_bank_staged, eid_of, bank_info, kept_register, record_register, register_at, valid_summary};
+ghost use Rattle.reri_bank.specs.Bank.{is_hart, with_record, BankLists, bank_shown, bank_of, no_events, record_count, record_at, bank_logged_by, new_state, new_bank, bank_written, bank_written_by, is_control_of, state_staged, lists_staged, eid_of, bank_info, kept_register, record_register, register_at, valid_summary};
 
 use crate::layout::{
-    ADDR, BANK_INFO, CONTROL, Control, INFO, STATUS, STRIDE, SUPPL, TIMESTAMP, VALID_SUMMARY,
-    control_bits, status_bits,
+    ADDR, BANK_ID, BANK_INFO, CONTROL, Control, INFO, STATUS, STRIDE, SUPPL, TIMESTAMP,
+    VALID_SUMMARY, control_bits, status_bits,
 };
 use crate::state::{RecState, Staged};
 use poison_mem::{Event, RecordView};
@@ -116,20 +116,20 @@ fn bank_info(kind: BankKind) -> u64
     number + RECORDS_UNIT * count + VERSION
 }
 
-/// What the registers after the status show of the kept event.
-fn kept_reg(kept: Option<RecordView>, offset: u16) -> u64
+/// What the registers after the status show of the kept event, 0 of an empty record.
+fn kept_reg(kept: Option<RecordView>, offset: u16) -> Option<u64>
     ensures { result ≡ kept_register kept offset }
 {
-    match kept {
-        None => 0,
-        Some(view) if offset == ADDR => view.kept.addr,
-        Some(view) if offset == INFO => view.kept.info,
-        Some(view) if offset == SUPPL => view.kept.suppl,
-        Some(view) => view.kept.at,
+    match offset {
+        ADDR => Some(kept.map_or(0, |view| view.kept.addr)),
+        INFO => Some(kept.map_or(0, |view| view.kept.info)),
+        SUPPL => Some(kept.map_or(0, |view| view.kept.suppl)),
+        TIMESTAMP => Some(kept.map_or(0, |view| view.kept.at)),
+        _ => None,
     }
 }
 
-/// The registers of one record, by their offset from its first.
+/// The registers of one record, by their offset from the control register, which is the first.
 fn record_reg(state: &RecState, offset: u16) -> Option<u64>
     requires pri { PriFits state.now.kept }
     requires ces { state.now.control.ces < 4 }
@@ -140,8 +140,7 @@ fn record_reg(state: &RecState, offset: u16) -> Option<u64>
     match offset {
         0 => Some(control_bits(state.control, eid_of(state.staged))),
         STATUS => Some(status_bits(state.kept.as_ref(), state.control.cece, state.rdip)),
-        ADDR | INFO | SUPPL | TIMESTAMP => Some(kept_reg(state.kept, offset)),
-        _ => None,
+        _ => kept_reg(state.kept, offset),
     }
 }
 
@@ -149,7 +148,7 @@ impl Bank {
     /// A bank with empty records, the first control, and nothing staged.
     pub fn new(kind: BankKind) -> Bank
         ensures value { result ≡ new_bank kind }
-        ensures stands { result ≡ bank_shown (new_lists kind) }
+        ensures stands { result ≡ bank_shown (bank_of no_events kind) }
     {
         Bank {
             kind,
@@ -158,7 +157,7 @@ impl Bank {
         }
     }
 
-    /// What `set_rec_state` asks for holds of each record.
+    /// Each record is in a state that `set_rec_state` would take. Nothing is done: the call tells the prover so.
     pub(crate) fn see_records(&self)
         ensures { AreHeld self.now }
     {
@@ -172,8 +171,8 @@ impl Bank {
         requires bank { e.bank ≡ kind_number self.old.kind }
         requires rec { e.rec < record_count self.old.kind }
         requires pri { e.pri < 4 }
-        ensures state { self.new ≡ bank_logged self.old e }
-        ensures lists { (b : BankLists) → self.old ≡ bank_shown b → self.new ≡ bank_shown (lists_bank_logged b e) }
+        ensures state { self.new ≡ bank_logged_by state_logged self.old e }
+        ensures lists { (b : BankLists) → self.old ≡ bank_shown b → self.new ≡ bank_shown (bank_logged_by lists_logged b e) }
     {
         if e.rec == 0 {
             self.first.log(e);
@@ -187,7 +186,7 @@ impl Bank {
         ensures { result ≡ register_at self.now offset }
     {
         match offset {
-            0 => Some(0),
+            BANK_ID => Some(0),
             BANK_INFO => Some(bank_info(self.kind)),
             VALID_SUMMARY => Some(self.valid_summary()),
             CONTROL..SECOND_CONTROL => record_reg(&self.first, offset - CONTROL),
@@ -213,7 +212,7 @@ impl Bank {
     pub fn write_reg(&mut self, offset: u16, v: u64) -> bool
         ensures written { result ≡ is_control_of self.old.kind offset }
         ensures state { self.new ≡ bank_written self.old offset v }
-        ensures lists { (b : BankLists) → self.old ≡ bank_shown b → self.new ≡ bank_shown (lists_bank_written b offset v) }
+        ensures lists { (b : BankLists) → self.old ≡ bank_shown b → self.new ≡ bank_shown (bank_written_by lists_written b offset v) }
     {
         let always_logs = self.kind == BankKind::Hart;
         if offset == CONTROL {
@@ -252,8 +251,8 @@ impl Bank {
         requires rec { rec < record_count self.old.kind }
         requires left { IfSome s (λ t. 1 ≤ t.left) }
         requires hart { kind_number self.old.kind ≡ 2 → s ≡ None }
-        ensures state { self.new ≡ bank_staged self.old rec s }
-        ensures lists { (b : BankLists) → self.old ≡ bank_shown b → self.new ≡ bank_shown (lists_bank_staged b rec s) }
+        ensures state { self.new ≡ with_record self.old rec (state_staged s) }
+        ensures lists { (b : BankLists) → self.old ≡ bank_shown b → self.new ≡ bank_shown (with_record b rec (lists_staged s)) }
     {
         if rec == 0 {
             self.first.staged = s;
@@ -284,7 +283,7 @@ impl Bank {
         requires held { IsRecordHeld (kind_number self.old.kind) rec s.now }
         ensures state { self.new ≡ with_record self.old rec (λ _. s.now) }
         ensures lists { (b : BankLists) (r : RecordLists) → self.old ≡ bank_shown b → s.now ≡ shown r
-            → self.new ≡ bank_shown (with_lists b rec (λ _. r)) }
+            → self.new ≡ bank_shown (with_record b rec (λ _. r)) }
     {
         if rec == 0 {
             self.first = *s;

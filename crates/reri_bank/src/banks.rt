@@ -1,10 +1,10 @@
 //! The three banks of a machine.
 
 ghost use Rattle.std.specs.Prelude.{◌≡◌, ◌<◌, ◌≤◌, None, IfSome};
-ghost use Rattle.reri_bank.specs.State.{IsRecordHeld, RecordLists, shown};
+ghost use Rattle.reri_bank.specs.State.{IsRecordHeld, RecordLists, shown, lists_logged, lists_written};
 ghost use Rattle.reri_bank.specs.BankState.{kind_number, AreHeld};
-ghost use Rattle.reri_bank.specs.Bank.{record_count, is_control_of, with_record, with_lists};
-ghost use Rattle.reri_bank.specs.Banks.{with_bank, with_bank_lists, records_of, BanksLists, banks_shown, banks_logged, lists_banks_logged, bank_at, new_banks, new_banks_lists, with_now, lists_with_now, first_critical, is_critical, banks_written, banks_staged, lists_banks_written, lists_banks_staged};
+ghost use Rattle.reri_bank.specs.Bank.{record_count, is_control_of, no_events, lists_staged};
+ghost use Rattle.reri_bank.specs.Banks.{with_record_of, records_of, BanksLists, banks_shown, banks_of, banks_logged, banks_logged_by, bank_at, new_banks, with_now, first_critical, is_critical, banks_written, banks_written_by, banks_staged};
 
 use crate::bank::{Bank, BankKind};
 use crate::state::{RecState, Staged};
@@ -47,7 +47,7 @@ impl Banks {
     /// The new banks 0, 1 and 2, and step 0.
     pub fn new() -> Banks
         ensures value { result ≡ new_banks }
-        ensures stands { result ≡ banks_shown new_banks_lists }
+        ensures stands { result ≡ banks_shown (banks_of no_events) }
     {
         Banks {
             memory: Bank::new(BankKind::Memory),
@@ -60,7 +60,7 @@ impl Banks {
     /// Sets the step that is put into events.
     pub fn set_now(&mut self, n: u64)
         ensures state { self.new ≡ with_now self.old n }
-        ensures lists { (l : BanksLists) → self.old ≡ banks_shown l → self.new ≡ banks_shown (lists_with_now l n) }
+        ensures lists { (l : BanksLists) → self.old ≡ banks_shown l → self.new ≡ banks_shown (with_now l n) }
     {
         self.step = n;
     }
@@ -114,7 +114,7 @@ impl Banks {
         requires { b < 3 }
         ensures written { result ≡ is_control_of (bank_at self.old b).kind offset }
         ensures state { self.new ≡ banks_written self.old b offset v }
-        ensures lists { (l : BanksLists) → self.old ≡ banks_shown l → self.new ≡ banks_shown (lists_banks_written l b offset v) }
+        ensures lists { (l : BanksLists) → self.old ≡ banks_shown l → self.new ≡ banks_shown (banks_written_by lists_written l b offset v) }
     {
         if b == 0 {
             self.memory.write_reg(offset, v)
@@ -135,7 +135,7 @@ impl Banks {
         requires left { IfSome s (λ t. 1 ≤ t.left) }
         requires hart { b ≡ 2 → s ≡ None }
         ensures state { self.new ≡ banks_staged self.old b rec s }
-        ensures lists { (l : BanksLists) → self.old ≡ banks_shown l → self.new ≡ banks_shown (lists_banks_staged l b rec s) }
+        ensures lists { (l : BanksLists) → self.old ≡ banks_shown l → self.new ≡ banks_shown (with_record_of l b rec (lists_staged s)) }
     {
         if b == 0 {
             self.memory.set_staged(rec, s);
@@ -151,9 +151,9 @@ impl Banks {
         requires bank { b < 3 }
         requires rec { rec < records_of b }
         requires held { IsRecordHeld b rec s.now }
-        ensures state { self.new ≡ with_bank self.old b (λ k. with_record k rec (λ _. s.now)) }
+        ensures state { self.new ≡ with_record_of self.old b rec (λ _. s.now) }
         ensures lists { (l : BanksLists) (r : RecordLists) → self.old ≡ banks_shown l → s.now ≡ shown r
-            → self.new ≡ banks_shown (with_bank_lists l b (λ k. with_lists k rec (λ _. r))) }
+            → self.new ≡ banks_shown (with_record_of l b rec (λ _. r)) }
     {
         if b == 0 {
             self.memory.set_rec_state(rec, s);
@@ -172,7 +172,7 @@ impl EventLog for Banks {
     /// banks, or has a `pri` above 3, changes nothing.
     fn log(&mut self, e: Event)
         ensures state { self.new ≡ banks_logged self.old e }
-        ensures lists { (l : BanksLists) → self.old ≡ banks_shown l → self.new ≡ banks_shown (lists_banks_logged l e) }
+        ensures lists { (l : BanksLists) → self.old ≡ banks_shown l → self.new ≡ banks_shown (banks_logged_by lists_logged l e) }
     {
         if e.pri > 3 {
             return;

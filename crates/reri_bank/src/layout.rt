@@ -1,4 +1,4 @@
-//! The bits of a record's registers.
+//! Where a bank's registers are, and the bits of a record's registers (RERI 1.0: control_i and status_i).
 
 ghost use Rattle.std.specs.Prelude.{◌≡◌, ◌<◌, ℕ, Bool, true, Some, IfSome};
 ghost use Rattle.std.specs.Option.{option_copied};
@@ -11,10 +11,13 @@ use crate::record::MOST_COUNTED;
 use poison_mem::{Class, Event, RecordView};
 use ras_bits::{get_field, has_bit};
 
-/// The offset of the register that describes a bank.
+/// The offset of the register that identifies a bank, which reads 0 (RERI: vendor_n_imp_id).
+pub const BANK_ID: u16 = 0;
+
+/// The offset of the register that describes a bank (RERI: bank_info).
 pub const BANK_INFO: u16 = 8;
 
-/// The offset of the register that says which records are valid.
+/// The offset of the register that says which records are valid (RERI: valid_summary).
 pub const VALID_SUMMARY: u16 = 16;
 
 /// The offset of the first record's control register. The other registers of a record come behind its own.
@@ -26,17 +29,29 @@ pub const STRIDE: u16 = 64;
 /// The offset of a record's status register from its control register.
 pub const STATUS: u16 = 8;
 
-/// The offset of the kept event's address from its record's control register.
+/// The offset of the kept event's address from its record's control register (RERI: addr_info_i).
 pub const ADDR: u16 = 16;
 
-/// The offset of what the kept event tells besides, likewise.
+/// The offset of what the kept event tells besides, likewise (RERI: info_i).
 pub const INFO: u16 = 24;
 
-/// The offset of what it tells besides that, likewise.
+/// The offset of what it tells besides that, likewise (RERI: suppl_info_i).
 pub const SUPPL: u16 = 32;
 
-/// The offset of the step of the kept event, likewise.
+/// The offset of the step of the kept event, likewise (RERI: timestamp_i).
 pub const TIMESTAMP: u16 = 40;
+
+// The lowest bits of the fields of a control register. `ELSE` is one bit wide, as are `CECE`, `SINV` and `SRDP`; `CES`,
+// `UEDS` and `UECS` are two, and `EID` is sixteen.
+pub(crate) const ELSE: u32 = 0;
+
+pub(crate) const CECE: u32 = 1;
+
+pub(crate) const CES: u32 = 2;
+
+pub(crate) const UEDS: u32 = 4;
+
+pub(crate) const UECS: u32 = 6;
 
 /// The bit of a control register that empties a record.
 pub const SINV: u32 = 32;
@@ -44,20 +59,34 @@ pub const SINV: u32 = 32;
 /// The bit of a control register that marks a record as read.
 pub const SRDP: u32 = 33;
 
+pub(crate) const EID: u32 = 48;
+
+// The lowest bits of the fields of a status register. `PRI` is two bits wide, `CODE` eight and `CEC` sixteen, the others
+// one.
+pub(crate) const V: u32 = 0;
+
+pub(crate) const CE: u32 = 1;
+
+pub(crate) const UED: u32 = 2;
+
+pub(crate) const UEC: u32 = 3;
+
+pub(crate) const PRI: u32 = 4;
+
+pub(crate) const MO: u32 = 6;
+
+pub(crate) const CECO: u32 = 7;
+
 /// The bit of a status register that says that its record was read.
 pub const RDIP: u32 = 8;
 
-// What `v` and `av`, another flag, and a field's unit are in a status register.
-pub(crate) const VALID_FLAGS: u64 = 1 + (1 << 10);
+pub(crate) const SCRUB: u32 = 9;
 
-pub(crate) const RDIP_FLAG: u64 = 1 << RDIP;
+pub(crate) const AV: u32 = 10;
 
-pub(crate) const SCRUB_FLAG: u64 = 1 << 9;
+pub(crate) const CODE: u32 = 16;
 
-pub(crate) const CODE_UNIT: u64 = 1 << 16;
-
-// The unit of bits 63:48: in a status register the number of corrected errors, in a control register the steps left.
-pub(crate) const TOP_UNIT: u64 = 1 << 48;
+pub(crate) const CEC: u32 = 48;
 
 /// What a record does with its events: bits 7:0 of its control register.
 #[derive(Clone, Copy, Debug, PartialEq, Eq)]
@@ -84,12 +113,12 @@ pub fn control_bits(c: Control, eid: u16) -> u64
     ensures word { result ≡ control_word c eid }
     ensures back { control_value result ≡ c }
 {
-    u64::from(c.logging)
-        + 0x2 * u64::from(c.cece)
-        + 0x4 * u64::from(c.ces)
-        + 0x10 * u64::from(c.ueds)
-        + 0x40 * u64::from(c.uecs)
-        + TOP_UNIT * u64::from(eid)
+    (1 << ELSE) * u64::from(c.logging)
+        + (1 << CECE) * u64::from(c.cece)
+        + (1 << CES) * u64::from(c.ces)
+        + (1 << UEDS) * u64::from(c.ueds)
+        + (1 << UECS) * u64::from(c.uecs)
+        + (1 << EID) * u64::from(eid)
 }
 
 /// What bits 7:0 of a control register say.
@@ -100,11 +129,11 @@ pub fn control_of(v: u64) -> Control
     ensures uecs { result.uecs < 4 }
 {
     Control {
-        logging: has_bit(v, 0),
-        cece: has_bit(v, 1),
-        ces: get_field(v, 2, 2) as u8,
-        ueds: get_field(v, 4, 2) as u8,
-        uecs: get_field(v, 6, 2) as u8,
+        logging: has_bit(v, ELSE),
+        cece: has_bit(v, CECE),
+        ces: get_field(v, CES, 2) as u8,
+        ueds: get_field(v, UEDS, 2) as u8,
+        uecs: get_field(v, UECS, 2) as u8,
     }
 }
 
@@ -123,17 +152,18 @@ fn status_of_view(view: &RecordView, cece: bool, rdip: bool) -> u64
     let code = view.kept.code;
     let pri = view.kept.pri;
     let count = shown_count(view, cece);
-    VALID_FLAGS
-        + 0x2 * u64::from(view.ce)
-        + 0x4 * u64::from(view.ued)
-        + 0x8 * u64::from(view.uec)
-        + 0x10 * u64::from(pri)
-        + 0x40 * u64::from(view.mo)
-        + 0x80 * u64::from(view.ceco & cece)
-        + RDIP_FLAG * u64::from(rdip)
-        + SCRUB_FLAG * u64::from(view.kept.scrub)
-        + CODE_UNIT * u64::from(code)
-        + TOP_UNIT * u64::from(count)
+    (1 << V)
+        + (1 << CE) * u64::from(view.ce)
+        + (1 << UED) * u64::from(view.ued)
+        + (1 << UEC) * u64::from(view.uec)
+        + (1 << PRI) * u64::from(pri)
+        + (1 << MO) * u64::from(view.mo)
+        + (1 << CECO) * u64::from(view.ceco & cece)
+        + (1 << RDIP) * u64::from(rdip)
+        + (1 << SCRUB) * u64::from(view.kept.scrub)
+        + (1 << AV)
+        + (1 << CODE) * u64::from(code)
+        + (1 << CEC) * u64::from(count)
 }
 
 /// The status register of a record that keeps this view, or 0 of an empty one.
@@ -153,11 +183,11 @@ pub fn status_bits(v: Option<&RecordView>, cece: bool, rdip: bool) -> u64
 fn stands_for_record(status: u64) -> bool
     ensures { result ≡ stands_for_record status }
 {
-    let is_valid = has_bit(status, 0) & has_bit(status, 10);
-    let is_flagged = has_bit(status, 1) | has_bit(status, 2) | has_bit(status, 3);
+    let is_valid = has_bit(status, V) & has_bit(status, AV);
+    let is_flagged = has_bit(status, CE) | has_bit(status, UED) | has_bit(status, UEC);
     let is_clear = (get_field(status, 11, 5) == 0) & (get_field(status, 24, 24) == 0);
-    let is_full = get_field(status, 48, 16) == u64::from(MOST_COUNTED);
-    is_valid & is_flagged & is_clear & (!has_bit(status, 7) | is_full)
+    let is_full = get_field(status, CEC, 16) == u64::from(MOST_COUNTED);
+    is_valid & is_flagged & is_clear & (!has_bit(status, CECO) | is_full)
 }
 
 /// The greatest class that is flagged, where one is.
@@ -192,15 +222,15 @@ pub fn view_of(
     if !stands_for_record(status) {
         return None;
     }
-    let ued = has_bit(status, 2);
-    let uec = has_bit(status, 3);
+    let ued = has_bit(status, UED);
+    let uec = has_bit(status, UEC);
     let kept = Event {
         bank,
         rec,
         class: greatest_flag(ued, uec),
-        pri: get_field(status, 4, 2) as u8,
-        code: get_field(status, 16, 8) as u8,
-        scrub: has_bit(status, 9),
+        pri: get_field(status, PRI, 2) as u8,
+        code: get_field(status, CODE, 8) as u8,
+        scrub: has_bit(status, SCRUB),
         addr,
         info,
         suppl,
@@ -208,12 +238,12 @@ pub fn view_of(
     };
     Some(RecordView {
         kept,
-        ce: has_bit(status, 1),
+        ce: has_bit(status, CE),
         ued,
         uec,
-        mo: has_bit(status, 6),
-        cec: get_field(status, 48, 16) as u16,
-        ceco: has_bit(status, 7),
+        mo: has_bit(status, MO),
+        cec: get_field(status, CEC, 16) as u16,
+        ceco: has_bit(status, CECO),
     })
 }
 
@@ -223,6 +253,7 @@ pub fn views_come_back_from_their_registers(v: &RecordView)
         view_value (status_word (Some v.now) true rdip) addr info suppl time bank rec
         ≡ Some (with_handed v.now addr info suppl time bank rec) }
 {
+    // These reads tell the prover that both numbers fit their types.
     let _count = v.cec;
     let _code = v.kept.code;
 }

@@ -13,8 +13,8 @@ mod views;
 pub use bank::{Bank, BankKind};
 pub use banks::Banks;
 pub use layout::{
-    ADDR, BANK_INFO, CONTROL, Control, INFO, RDIP, SINV, SRDP, STATUS, STRIDE, SUPPL, TIMESTAMP,
-    VALID_SUMMARY, control_bits, control_of, status_bits, view_of,
+    ADDR, BANK_ID, BANK_INFO, CONTROL, Control, INFO, RDIP, SINV, SRDP, STATUS, STRIDE, SUPPL,
+    TIMESTAMP, VALID_SUMMARY, control_bits, control_of, status_bits, view_of,
     views_come_back_from_their_registers,
 };
 pub use state::{RecState, Staged};

@@ -1,5 +1,5 @@
 use Rattle.std.proofs.Common.{arith}
-use Rattle.reri_bank.specs.LayoutLaws.{registers_show}
+use Rattle.reri_bank.proofs.ComesBack.{registers_show}
 use Rattle.reri_bank.proofs.layout.views_come_back_from_their_registers.Goals as goal
 
 pub returns : goal.returns

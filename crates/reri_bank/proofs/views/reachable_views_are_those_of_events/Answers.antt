@@ -1,4 +1,5 @@
-use Rattle.reri_bank.specs.ViewsLaws.{shown_reachable, reached, held_stands}
+use Rattle.reri_bank.proofs.Shown.{shown_reachable}
+use Rattle.reri_bank.proofs.Reached.{reached, held_stands}
 use Rattle.reri_bank.proofs.views.reachable_views_are_those_of_events.Goals as goal
 
 pub returns-clause-shown : goal.returns-clause-shown

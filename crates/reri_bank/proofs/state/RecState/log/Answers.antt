@@ -1,6 +1,6 @@
 use Rattle.std.proofs.Common.{refl}
 use Rattle.reri_bank.specs.StateLaws.{logged_stands}
-use Rattle.reri_bank.specs.ViewsLaws.{held_logged}
+use Rattle.reri_bank.proofs.Shown.{held_logged}
 use Rattle.reri_bank.proofs.state.RecState.log.Goals as goal
 
 pub returns-then-self-clause-lists : goal.returns-then-self-clause-lists

@@ -1,0 +1,3 @@
+pub mod ComesBack
+pub mod Shown
+pub mod Reached
