@@ -1,3 +1,1 @@
-pub mod Handing
-pub mod Logging
-pub mod Alone
+pub mod AnyCalls

@@ -3,8 +3,12 @@
 //! No call of this crate takes memory.
 #![tactic(auto)]
 
+mod calls;
+mod critical;
 mod due;
 mod inject;
 
-pub use due::{injections_are_logged_when_due, records_count_down_alone};
+pub use calls::injections_are_logged_when_due;
+pub use critical::critical_events_are_due;
+pub use due::at_most_one_injection_is_due;
 pub use inject::{count_down, stage};
