@@ -1,10 +1,15 @@
-//! Fields of formats that firmware and operating systems read: numbers, bytes and reserved zeros, one after the other.
+//! Formats that firmware and operating systems read, by slots: a slot is a named part of a format, with its offset and its
+//! length. Writers put numbers and bytes at slots, readers read them there, and what isn't named is zero.
 //!
 //! Numbers are little-endian. No call of this crate takes memory.
 #![tactic(auto)]
 
 mod reading;
+mod section;
+mod slot;
 mod writing;
 
-pub use reading::{array_at, u8_at};
-pub use writing::{push_bytes, push_u8, push_u16, push_u32, push_u64, push_zeros};
+pub use reading::{array_in, u8_in, u16_in, u32_in, u64_in};
+pub use section::{FRU_TEXT_VALID, SectionSlots, section_in};
+pub use slot::Slot;
+pub use writing::{pad_to, push_bytes, put_bytes, put_u8, put_u16, put_u32, put_u64};
