@@ -1,2 +1,3 @@
 pub mod SectionLemmas
+pub mod SlotLemmas
 pub mod ReadBack

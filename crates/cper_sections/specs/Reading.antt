@@ -2,30 +2,32 @@
 use Rattle.std.specs.Prelude.{ℕ, ◌+◌, ◌*◌, ◌≤◌, Bool, not, ◌&&◌, ◌==◌, nat_lt, nat_le, if◌then◌else◌, List, map, length, codes, Option, Some, None, Result, Ok, Err}
 use Rattle.std.specs.List.{find, range_with_len}
 use Rattle.arrayvec.specs.ArrayVec.{ArrayVec}
-use Rattle.ras_bits.specs.Fields.{field, number_at}
 use Rattle.ras_bits.specs.Results.{◌>>=◌}
 use Rattle.ras_bits.specs.declared.terms.SectionAt.{SectionAt}
-use Rattle.byte_fields.specs.Fields.{bytes_at}
-use Rattle.cper_sections.specs.Layout.{descriptor_length, header_length, end_mark}
+use Rattle.byte_fields.specs.Fields.{number_in}
+use Rattle.byte_fields.specs.Section.{section_in}
+use Rattle.cper_sections.specs.Record.{descriptor_length, header_length, end_mark}
+use Rattle.cper_sections.specs.declared.header.TheConstants as header
+use Rattle.cper_sections.specs.declared.descriptor.TheConstants as descriptor
 use Rattle.cper_sections.specs.declared.reading.Cper.{Cper}
 use Rattle.cper_sections.specs.declared.reading.CperRefused.{CperRefused}
 use Rattle.cper_sections.specs.declared.reading.CperRefused.TheVariants as refused
 
 -- the header's Signature Start, Signature End, Record Length and Section Count
 abbrev pub signature_start : List ℕ → ℕ
-signature_start b = number_at 4 0 b
+signature_start b = number_in header.SIGNATURE_START 0 b
 
 -- Signature End
 abbrev pub signature_end : List ℕ → ℕ
-signature_end b = number_at 4 6 b
+signature_end b = number_in header.SIGNATURE_END 0 b
 
 -- Record Length
 abbrev pub record_length : List ℕ → ℕ
-record_length b = number_at 4 20 b
+record_length b = number_in header.RECORD_LENGTH 0 b
 
 -- Section Count
 abbrev pub section_count : List ℕ → ℕ
-section_count b = number_at 2 10 b
+section_count b = number_in header.SECTION_COUNT 0 b
 
 -- where descriptor i begins
 abbrev pub descriptor_start : ℕ → ℕ
@@ -53,27 +55,17 @@ header_kept b =
     else if nat_lt (record_length b) (descriptors_end b) then Err refused.Sections
     else Ok tt
 
--- of the descriptor from an offset on: Section Offset, Section Length, and the FRU Text, where its bit of Validation Bits is set
+-- Section Offset, of the descriptor from an offset on
 abbrev pub section_offset : List ℕ → ℕ → ℕ
-section_offset b at = number_at 4 at b
+section_offset b at = number_in descriptor.SECTION_OFFSET at b
 
 -- Section Length, of the descriptor from an offset on
 abbrev pub section_length : List ℕ → ℕ → ℕ
-section_length b at = number_at 4 (at + 4) b
-
--- its FRU Text, where the bit of Validation Bits is set
-abbrev pub fru_at : List ℕ → ℕ → Option (List ℕ)
-fru_at b at = if field (number_at 1 (at + 10) b) 1 1 == 1 then Some (bytes_at 20 (at + 52) b) else None
+section_length b at = number_in descriptor.SECTION_LENGTH at b
 
 -- the section of the descriptor from an offset on
-unfoldable pub section_at : List ℕ → ℕ → SectionAt
-section_at b at = record {
-  kind = bytes_at 16 (at + 16) b;
-  start = section_offset b at;
-  length = section_length b at;
-  severity = number_at 4 (at + 48) b;
-  fru = fru_at b at;
-}
+abbrev pub section_at : List ℕ → ℕ → SectionAt
+section_at b at = section_in descriptor.SECTION at (section_offset b at) b
 
 -- section i begins behind the descriptors and ends before the record does
 abbrev pub is_in_place : List ℕ → ℕ → Bool
@@ -99,12 +91,12 @@ sections_of b = do
 -- the record at the front
 unfoldable pub record_of : List ℕ → Result Cper CperRefused
 record_of b = do
-  header ← header_kept b
+  kept ← header_kept b
   sections ← sections_of b
   Ok (record {
-    id = number_at 8 96 b;
-    severity = number_at 4 12 b;
-    at = number_at 8 108 b;
+    id = number_in header.RECORD_ID 0 b;
+    severity = number_in header.ERROR_SEVERITY 0 b;
+    at = number_in header.PERSISTENCE 0 b;
     length = record_length b;
     sections = sections;
   })

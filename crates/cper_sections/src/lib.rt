@@ -4,12 +4,18 @@
 //! No call of this crate takes memory.
 #![tactic(auto)]
 
+mod descriptor;
+mod fru;
+mod header;
+pub mod memory;
+pub mod processor;
 mod reading;
-mod sections;
+mod severity;
 mod writing;
 
+pub use fru::fru_text;
+pub use memory::{MEMORY_SECTION, mem_section};
+pub use processor::{PROCESSOR_SECTION, proc_section};
 pub use reading::{Cper, CperRefused, read_record};
-pub use sections::{
-    MEMORY_SECTION, PROCESSOR_SECTION, fru_text, mem_section, proc_section, severity_of,
-};
+pub use severity::severity_of;
 pub use writing::write_record;

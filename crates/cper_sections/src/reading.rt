@@ -3,16 +3,14 @@
 ghost use Rattle.std.specs.Prelude.{◌≡◌, ◌+◌, ◌*◌, ◌≤◌, ◌<◌, length, OnOk};
 ghost use Rattle.cper_sections.specs.Reading.{HasDescriptors, descriptor_start, header_kept, is_in_place, record_of, section_at, section_count, sections_of};
 
+use crate::descriptor::{DESCRIPTOR_LENGTH, SECTION, SECTION_LENGTH, SECTION_OFFSET};
+use crate::header::{
+    END_MARK, ERROR_SEVERITY, HEADER_LENGTH, PERSISTENCE, RECORD_ID, RECORD_LENGTH, SECTION_COUNT,
+    SIGNATURE_END, SIGNATURE_START,
+};
 use arrayvec::ArrayVec;
-use byte_fields::{array_at, u8_at};
-use ras_bits::{SectionAt, get_field, u16_at, u32_at, u64_at};
-
-pub(crate) const HEADER_LENGTH: usize = 128;
-
-pub(crate) const DESCRIPTOR_LENGTH: usize = 72;
-
-// What stands behind the revision of a record.
-pub(crate) const END_MARK: u32 = 0xFFFF_FFFF;
+use byte_fields::{section_in, u16_in, u32_in, u64_in};
+use ras_bits::SectionAt;
 
 /// What a record says.
 #[derive(Drop)]
@@ -54,10 +52,10 @@ pub fn read_record(b: &[u8]) -> Result<Cper, CperRefused>
     keep_header(b)?;
     let sections = read_sections(b)?;
     Ok(Cper {
-        id: u64_at(b, 96),
-        severity: u32_at(b, 12),
-        at: u64_at(b, 108),
-        length: u32_at(b, 20),
+        id: u64_in(b, 0, RECORD_ID),
+        severity: u32_in(b, 0, ERROR_SEVERITY),
+        at: u64_in(b, 0, PERSISTENCE),
+        length: u32_in(b, 0, RECORD_LENGTH),
         sections,
     })
 }
@@ -70,17 +68,17 @@ fn keep_header(b: &[u8]) -> Result<(), CperRefused>
     if b.len() < HEADER_LENGTH {
         return Err(CperRefused::Short);
     }
-    if u32_at(b, 0) != u32_at(b"CPER", 0) {
+    if u32_in(b, 0, SIGNATURE_START) != u32_in(b"CPER", 0, SIGNATURE_START) {
         return Err(CperRefused::Signature);
     }
-    if u32_at(b, 6) != END_MARK {
+    if u32_in(b, 0, SIGNATURE_END) != END_MARK {
         return Err(CperRefused::EndMark);
     }
-    let end = u32_at(b, 20) as usize;
+    let end = u32_in(b, 0, RECORD_LENGTH) as usize;
     if end < HEADER_LENGTH || b.len() < end {
         return Err(CperRefused::Length);
     }
-    let count = u16_at(b, 10);
+    let count = u16_in(b, 0, SECTION_COUNT);
     if count == 0 || count > 16 || end < descriptor_start(count) {
         return Err(CperRefused::Sections);
     }
@@ -100,7 +98,7 @@ fn read_sections(b: &[u8]) -> Result<ArrayVec<SectionAt, 16>, CperRefused>
     ensures { result ≡ sections_of b.now }
 {
     let mut sections = ArrayVec::new();
-    for i in 0..u16_at(b, 10) {
+    for i in 0..u16_in(b, 0, SECTION_COUNT) {
         if !is_in_place(b, i) {
             return Err(CperRefused::SectionPlace(u32::from(i)));
         }
@@ -116,29 +114,18 @@ fn is_in_place(b: &[u8], i: u16) -> bool
     ensures { result ≡ is_in_place b.now i }
 {
     let at = descriptor_start(i);
-    let start = u32_at(b, at) as usize;
-    let section_end = start + u32_at(b, at + 4) as usize;
-    let first = descriptor_start(u16_at(b, 10));
-    let end = u32_at(b, 20) as usize;
+    let start = u32_in(b, at, SECTION_OFFSET) as usize;
+    let section_end = start + u32_in(b, at, SECTION_LENGTH) as usize;
+    let first = descriptor_start(u16_in(b, 0, SECTION_COUNT));
+    let end = u32_in(b, 0, RECORD_LENGTH) as usize;
     first <= start && section_end <= end
 }
 
 // The section of the descriptor from an offset on.
-#[tactic(auto, unfolding(crate::specs::Reading::section_at))]
+#[tactic(auto, using(crate::proofs::SectionLemmas::descriptor_tells))]
 fn section_at(b: &[u8], at: usize) -> SectionAt
     requires { at + 72 ≤ length b.now }
     ensures { result ≡ section_at b.now at }
 {
-    let has_fru = get_field(u64::from(u8_at(b, at + 10)), 1, 1) == 1;
-    SectionAt {
-        kind: array_at(b, at + 16),
-        start: u32_at(b, at),
-        length: u32_at(b, at + 4),
-        severity: u32_at(b, at + 48),
-        fru: if has_fru {
-            Some(array_at(b, at + 52))
-        } else {
-            None
-        },
-    }
+    section_in(b, at, u32_in(b, at, SECTION_OFFSET), &SECTION)
 }
