@@ -1,14 +1,16 @@
 -- Entries of a block, written one by one.
-use Rattle.std.proofs.Common.{◌≡◌, ℕ, zero, suc, ◌+◌, ◌-◌, ◌<◌, ◌≤◌, List, map, [], ◌∷◌, ◌++◌, ◌==◌, Result, Ok, Err, length, get_or, drop, sym, ap, ◌∙◌, append_assoc, add-one, drop-cons, arith}
+use Rattle.std.proofs.Common.{◌≡◌, ℕ, zero, suc, ◌+◌, ◌-◌, ◌<◌, ◌≤◌, List, map, [], ◌∷◌, ◌++◌, ◌==◌, Result, Ok, Err, length, refl, get_or, drop, sym, ap, ◌∙◌, append_assoc, add-one, drop-cons, arith}
 use Rattle.std.proofs.lemmas.List.{append-nil}
 use Rattle.std.proofs.Math.ListN.{drop_of_length-le}
 use Rattle.std.specs.Prelude.{if◌then◌else◌}
 use Rattle.std.specs.List.{find, flat_map, range_with_len}
 use Rattle.ras_bits.specs.Results.{◌>>=◌}
-use Rattle.byte_fields.specs.Fields.{with_fields, little, zeros}
-use Rattle.byte_fields.specs.FieldsLaws.{with_fields_behind}
-use Rattle.acpi_tables.specs.declared.blocks.Entry.{Entry}
-use Rattle.acpi_tables.specs.Layout.{block_bytes, entry_fields, entry_bytes}
+use Rattle.byte_fields.specs.Fields.{little, zeros, padded}
+use Rattle.byte_fields.specs.Section.{TellsOfSection}
+use Rattle.acpi_tables.specs.declared.entries.Entry.{Entry}
+use Rattle.acpi_tables.specs.declared.entries.TheConstants.{SECTION}
+use Rattle.acpi_tables.specs.Blocks.{block_bytes}
+use Rattle.acpi_tables.specs.Entries.{entry_bytes}
 use Rattle.acpi_tables.specs.Reading.{entry_end, entry_start, is_past, refused_at, entry_section}
 use Rattle.acpi_tables.specs.declared.refused.TableRefused.{TableRefused}
 use Rattle.acpi_tables.specs.declared.refused.TableRefused.TheVariants as refused
@@ -22,11 +24,20 @@ next_entry entries i e lt is = drop-cons entries i e lt ∙ ap (λ (x : Entry). 
 
 -- an entry more at the end, and one less that is left
 pub entry_written : (out : List ℕ) (entries : List Entry) (i : ℕ) (e : Entry) → i < length entries → e ≡ get_or entries i e
-    → with_fields out (entry_fields e) ++ flat_map entry_bytes (drop (i + 1) entries) ≡ out ++ flat_map entry_bytes (drop i entries)
+    → (out ++ entry_bytes e) ++ flat_map entry_bytes (drop (i + 1) entries) ≡ out ++ flat_map entry_bytes (drop i entries)
 entry_written out entries i e lt is =
-    ap (λ (xs : List ℕ). xs ++ flat_map entry_bytes (drop (i + 1) entries)) (with_fields_behind out (entry_fields e))
-    ∙ append_assoc out (entry_bytes e) (flat_map entry_bytes (drop (i + 1) entries))
+    append_assoc out (entry_bytes e) (flat_map entry_bytes (drop (i + 1) entries))
     ∙ ap (λ (es : List Entry). out ++ flat_map entry_bytes es) (sym (next_entry entries i e lt is))
+
+-- an entry that is there tells of a section
+pub entry_tells : (b : List ℕ) (at : ℕ) → at + 72 ≤ length b → TellsOfSection SECTION at b
+entry_tells b at whole = record {
+  kind = record { width = refl; there = omega arith };
+  length = record { width = refl; there = omega arith };
+  severity = record { width = refl; there = omega arith };
+  valid = record { width = refl; there = omega arith };
+  fru = record { width = refl; there = omega arith };
+}
 
 -- the sections that were taken, and those of the entries from number i on, so many, the last of `count`
 abbrev pub entries_from : ℕ → List ℕ → ℕ → List SectionAt → ℕ → ℕ → Result (ArrayVec SectionAt) TableRefused
@@ -57,5 +68,5 @@ all_written out whole entries i le so_far =
 
 -- a block without entries is zeros
 pub empty_block : (entries : List Entry) → entries ≡ [] → block_bytes entries ≡ zeros 20
-unfolding little zeros
+unfolding little zeros padded
 empty_block entries e = ap block_bytes e

@@ -2,11 +2,20 @@
 use Rattle.std.specs.Prelude.{ℕ, zero, suc, ◌+◌, ◌*◌, ◌%◌, Bool, not, ◌||◌, ◌==◌, nat_lt, if◌then◌else◌, List, map, length, take, sum, codes, Option, Some, None, Result, Ok, Err}
 use Rattle.std.specs.List.{find, range_with_len}
 use Rattle.arrayvec.specs.ArrayVec.{ArrayVec}
-use Rattle.ras_bits.specs.Fields.{field, number_at}
+use Rattle.ras_bits.specs.Fields.{field}
 use Rattle.ras_bits.specs.Results.{◌>>=◌}
 use Rattle.ras_bits.specs.declared.terms.SectionAt.{SectionAt}
-use Rattle.byte_fields.specs.Fields.{bytes_at}
-use Rattle.acpi_tables.specs.Layout.{block_header_length, bert_length, entry_header_length, generic_source, least_hest}
+use Rattle.byte_fields.specs.Fields.{number_in}
+use Rattle.byte_fields.specs.Section.{section_in}
+use Rattle.acpi_tables.specs.Tables.{bert_length, least_hest}
+use Rattle.acpi_tables.specs.ErrorSource.{generic_source, source_length}
+use Rattle.acpi_tables.specs.Blocks.{block_header_length}
+use Rattle.acpi_tables.specs.Entries.{entry_header_length}
+use Rattle.acpi_tables.specs.declared.table_header.TheConstants.{SIGNATURE, LENGTH}
+use Rattle.acpi_tables.specs.declared.tables.TheConstants.{ERROR_SOURCE_COUNT, BOOT_ERROR_REGION_LENGTH, BOOT_ERROR_REGION}
+use Rattle.acpi_tables.specs.declared.error_source.TheConstants.{SOURCE_TYPE}
+use Rattle.acpi_tables.specs.declared.blocks.TheConstants as block
+use Rattle.acpi_tables.specs.declared.entries.TheConstants as entry
 use Rattle.acpi_tables.specs.declared.refused.TableRefused.{TableRefused}
 use Rattle.acpi_tables.specs.declared.refused.TableRefused.TheVariants as refused
 use Rattle.acpi_tables.specs.declared.table_reading.HestView.{HestView}
@@ -22,11 +31,11 @@ refused_at refusal (Some i) = Err (refusal i)
 
 -- the header's Signature and Length
 abbrev pub signature_of : List ℕ → ℕ
-signature_of b = number_at 4 0 b
+signature_of b = number_in SIGNATURE 0 b
 
 -- the length that a table says it has
 abbrev pub table_length : List ℕ → ℕ
-table_length b = number_at 4 4 b
+table_length b = number_in LENGTH 0 b
 
 -- the length of the table at the front, which has its signature, at least so many bytes, all of them there, and
 -- bytes that sum to 0
@@ -41,15 +50,15 @@ table_of signature least b =
 
 -- HEST's Error Source Count, and where source i begins
 abbrev pub source_count : List ℕ → ℕ
-source_count b = number_at 4 36 b
+source_count b = number_in ERROR_SOURCE_COUNT 0 b
 
 -- where source i of a HEST begins
 abbrev pub source_start : ℕ → ℕ
-source_start i = least_hest + 64 * i
+source_start i = least_hest + source_length * i
 
 -- source i passes the table's end or has another type
 abbrev pub is_other_source : ℕ → List ℕ → ℕ → Bool
-is_other_source end b i = nat_lt end (source_start i + 64) || not (number_at 2 (source_start i) b == generic_source)
+is_other_source end b i = nat_lt end (source_start i + source_length) || not (number_in SOURCE_TYPE (source_start i) b == generic_source)
 
 -- the first of so many sources that passes the table's end or has another type is refused
 abbrev pub sources_in : ℕ → List ℕ → ℕ → Result (Unit {0}) TableRefused
@@ -66,39 +75,29 @@ hest_of b = do
 unfoldable pub bert_of : List ℕ → Result BertView TableRefused
 bert_of b = do
   end ← table_of (codes "BERT") bert_length b
-  Ok (record { length = number_at 4 36 b; address = number_at 8 40 b })
+  Ok (record { length = number_in BOOT_ERROR_REGION_LENGTH 0 b; address = number_in BOOT_ERROR_REGION 0 b })
 
 -- ---- status blocks
 
 -- Data Length, and the number of entries in Block Status
 abbrev pub block_data_length : List ℕ → ℕ
-block_data_length b = number_at 4 12 b
+block_data_length b = number_in block.DATA_LENGTH 0 b
 
 -- the number of entries that a block's status says it has
 abbrev pub entry_count : List ℕ → ℕ
-entry_count b = field (number_at 4 0 b) 4 10
+entry_count b = field (number_in block.BLOCK_STATUS 0 b) 4 10
 
 -- of the entry from an offset on: Error Data Length, and where its section ends
 abbrev pub entry_section_length : List ℕ → ℕ → ℕ
-entry_section_length b at = number_at 4 (at + 24) b
+entry_section_length b at = number_in entry.ERROR_DATA_LENGTH at b
 
 -- where an entry ends
 abbrev pub entry_end : List ℕ → ℕ → ℕ
 entry_end b at = at + entry_header_length + entry_section_length b at
 
--- the FRU Text, where its bit of Validation Bits is set
-abbrev pub entry_fru : List ℕ → ℕ → Option (List ℕ)
-entry_fru b at = if field (number_at 1 (at + 22) b) 1 1 == 1 then Some (bytes_at 20 (at + 44) b) else None
-
 -- the section of the entry from an offset on
-unfoldable pub entry_section : List ℕ → ℕ → SectionAt
-entry_section b at = record {
-  kind = bytes_at 16 at b;
-  start = at + entry_header_length;
-  length = entry_section_length b at;
-  severity = number_at 4 (at + 16) b;
-  fru = entry_fru b at;
-}
+abbrev pub entry_section : List ℕ → ℕ → SectionAt
+entry_section b at = section_in entry.SECTION at (at + entry_header_length) b
 
 -- where entry i begins: the first behind the header, and each of the others where the one before it ends
 abbrev pub entry_start : List ℕ → ℕ → ℕ
@@ -124,4 +123,4 @@ block_of b =
     else if nat_lt 16 (entry_count b) then Err refused.Length
     else (do
       sections ← entries_in (block_header_length + block_data_length b) b (entry_count b)
-      Ok (record { status = number_at 4 0 b; severity = number_at 4 16 b; entries = sections }))
+      Ok (record { status = number_in block.BLOCK_STATUS 0 b; severity = number_in block.ERROR_SEVERITY 0 b; entries = sections }))

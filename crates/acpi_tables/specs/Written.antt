@@ -1,8 +1,9 @@
 -- What the readers find in what was written.
 use Rattle.std.specs.Prelude.{◌≡◌, ℕ, ◌+◌, ◌<◌, ◌^◌, List, [], ◌∷◌, length, Some}
 use Rattle.ras_bits.specs.declared.terms.SectionAt.{SectionAt}
-use Rattle.acpi_tables.specs.Layout.{block_header_length, block_status, entry_header_length, entry_length, worst_severity}
-use Rattle.acpi_tables.specs.declared.blocks.Entry.{Entry}
+use Rattle.acpi_tables.specs.Blocks.{block_header_length, block_status, worst_severity}
+use Rattle.acpi_tables.specs.Entries.{entry_header_length, entry_length}
+use Rattle.acpi_tables.specs.declared.entries.Entry.{Entry}
 use Rattle.acpi_tables.specs.declared.block_reading.BlockView.{BlockView}
 
 -- the lengths and numbers of an entry are those of its type

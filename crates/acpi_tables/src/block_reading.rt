@@ -3,11 +3,12 @@
 ghost use Rattle.std.specs.Prelude.{◌≡◌, ◌+◌, ◌≤◌, ◌<◌, ◌^◌, length};
 ghost use Rattle.acpi_tables.specs.Reading.{block_of, entries_in, entry_section};
 
-use crate::blocks::{BLOCK_HEADER_LENGTH, ENTRY_HEADER_LENGTH};
+use crate::blocks::{BLOCK_HEADER_LENGTH, BLOCK_STATUS, DATA_LENGTH, ERROR_SEVERITY};
+use crate::entries::{ENTRY_HEADER_LENGTH, ERROR_DATA_LENGTH, SECTION};
 use crate::refused::TableRefused;
 use arrayvec::ArrayVec;
-use byte_fields::{array_at, u8_at};
-use ras_bits::{SectionAt, get_field, u32_at};
+use byte_fields::{section_in, u32_in};
+use ras_bits::{SectionAt, get_field};
 
 /// What a status block says.
 #[derive(Drop)]
@@ -30,8 +31,8 @@ pub fn read_block(b: &[u8]) -> Result<BlockView, TableRefused>
     if b.len() < BLOCK_HEADER_LENGTH {
         return Err(TableRefused::Short);
     }
-    let status = u32_at(b, 0);
-    let end = BLOCK_HEADER_LENGTH + u32_at(b, 12) as usize;
+    let status = u32_in(b, 0, BLOCK_STATUS);
+    let end = BLOCK_HEADER_LENGTH + u32_in(b, 0, DATA_LENGTH) as usize;
     let count = get_field(u64::from(status), 4, 10) as u32;
     if b.len() < end || count > 16 {
         return Err(TableRefused::Length);
@@ -39,7 +40,7 @@ pub fn read_block(b: &[u8]) -> Result<BlockView, TableRefused>
     let entries = read_entries(end, b, count)?;
     Ok(BlockView {
         status,
-        severity: u32_at(b, 16),
+        severity: u32_in(b, 0, ERROR_SEVERITY),
         entries,
     })
 }
@@ -58,7 +59,7 @@ fn read_entries(end: usize, b: &[u8], count: u32) -> Result<ArrayVec<SectionAt, 
         if end < at + ENTRY_HEADER_LENGTH {
             return Err(TableRefused::Entry(i));
         }
-        let entry_end = at + ENTRY_HEADER_LENGTH + u32_at(b, at + 24) as usize;
+        let entry_end = at + ENTRY_HEADER_LENGTH + u32_in(b, at, ERROR_DATA_LENGTH) as usize;
         if end < entry_end {
             return Err(TableRefused::Entry(i));
         }
@@ -72,22 +73,11 @@ fn read_entries(end: usize, b: &[u8], count: u32) -> Result<ArrayVec<SectionAt, 
 }
 
 // The section of the entry from an offset on.
-#[tactic(auto, unfolding(crate::specs::Reading::entry_section))]
+#[tactic(auto, using(crate::proofs::BlockLemmas::entry_tells))]
 fn entry_section(b: &[u8], at: usize) -> SectionAt
     requires there { at + 72 ≤ length b.now }
     requires offsets { length b.now < 2 ^ 32 }
     ensures { result ≡ entry_section b.now at }
 {
-    let has_fru = get_field(u64::from(u8_at(b, at + 22)), 1, 1) == 1;
-    SectionAt {
-        kind: array_at(b, at),
-        start: (at + ENTRY_HEADER_LENGTH) as u32,
-        length: u32_at(b, at + 24),
-        severity: u32_at(b, at + 16),
-        fru: if has_fru {
-            Some(array_at(b, at + 44))
-        } else {
-            None
-        },
-    }
+    section_in(b, at, (at + ENTRY_HEADER_LENGTH) as u32, &SECTION)
 }

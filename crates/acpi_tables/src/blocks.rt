@@ -1,32 +1,38 @@
-//! Status blocks and their entries.
+//! Status blocks (ACPI, "Generic Error Status Block").
 
-ghost use Rattle.std.specs.Prelude.{ℕ, List, [], ◌++◌, Ok, ◌≡◌, ◌+◌, ◌*◌, ◌-◌, ◌%◌, ◌≤◌, ◌<◌, length};
-ghost use Rattle.arrayvec.specs.ArrayVec.{array_vec_len};
-ghost use Rattle.byte_fields.specs.Fields.{joined, with_fields, zeros};
-ghost use Rattle.acpi_tables.specs.Layout.{block_bytes, block_header, block_status, count_of, data_length, entry_fields, worst_severity};
+ghost use Rattle.std.specs.Prelude.{ℕ, List, [], ◌++◌, Ok, ◌≡◌, ◌≤◌, length};
+ghost use Rattle.byte_fields.specs.Fields.{zeros};
+ghost use Rattle.acpi_tables.specs.Blocks.{block_bytes, block_status, count_of, data_length, worst_severity};
 ghost use Rattle.acpi_tables.specs.Reading.{block_of};
-ghost use Rattle.acpi_tables.specs.Written.{IsEntry, block_view};
+ghost use Rattle.acpi_tables.specs.Written.{block_view};
 
+use crate::entries::{ENTRY_HEADER_LENGTH, Entry, push_entry};
 use arrayvec::ArrayVec;
-use byte_fields::{push_bytes, push_u8, push_u16, push_u32, push_zeros};
+use byte_fields::{Slot, pad_to, put_u32};
 
-/// The length of a block's header, and of what stands before an entry's section, in bytes.
+/// The length of a block's header in bytes.
 pub(crate) const BLOCK_HEADER_LENGTH: usize = 20;
 
-pub(crate) const ENTRY_HEADER_LENGTH: usize = 72;
+pub(crate) const BLOCK_STATUS: Slot = Slot {
+    offset: 0,
+    width: 4,
+};
 
-/// An entry of a status block (ACPI, "Generic Error Data Entry"), with its section.
-#[derive(Default, Drop)]
-pub struct Entry {
-    /// The section type: a GUID in the order of its bytes in memory.
-    pub kind: [u8; 16],
-    /// The severity: 0 recoverable, 1 fatal, 2 corrected.
-    pub severity: u32,
-    /// The text that names the field-replaceable unit.
-    pub fru: [u8; 20],
-    /// The section.
-    pub body: ArrayVec<u8, 192>,
-}
+pub(crate) const DATA_LENGTH: Slot = Slot {
+    offset: 12,
+    width: 4,
+};
+
+pub(crate) const ERROR_SEVERITY: Slot = Slot {
+    offset: 16,
+    width: 4,
+};
+
+const RECOVERABLE: u32 = 0;
+
+const FATAL: u32 = 1;
+
+const CORRECTED: u32 = 2;
 
 /// Replaces what is in `out` by the status block of these entries, five at most (ACPI, "Generic Error Status Block").
 ///
@@ -38,32 +44,13 @@ pub fn status_block(entries: &[Entry], out: &mut ArrayVec<u8, 2048>)
     ensures reads_back { (rest : List ℕ) → block_of (out.new.items ++ rest) ≡ Ok (block_view entries.now) }
 {
     out.clear();
-    push_u32(out, status_of(entries));
-    push_u32(out, 0);
-    push_u32(out, 0);
-    push_u32(out, length_of(entries));
-    push_u32(out, worst_severity(entries));
+    put_u32(out, BLOCK_STATUS, status_of(entries));
+    put_u32(out, DATA_LENGTH, length_of(entries));
+    put_u32(out, ERROR_SEVERITY, worst_severity(entries));
+    pad_to(out, BLOCK_HEADER_LENGTH);
     for entry in entries {
         push_entry(out, entry);
     }
-}
-
-fn push_entry(out: &mut ArrayVec<u8, 2048>, entry: &Entry)
-    requires { array_vec_len out.old + 264 ≤ 2048 }
-    ensures items { out.new.items ≡ with_fields out.old.items (entry_fields entry.now) }
-    ensures len { array_vec_len out.new ≤ array_vec_len out.old + 264 }
-    ensures typed { IsEntry entry.now }
-{
-    push_bytes(out, &entry.kind);
-    push_u32(out, entry.severity);
-    push_u16(out, 0x0300);
-    push_u8(out, 2);
-    push_u8(out, 0);
-    push_u32(out, entry.body.len() as u32);
-    push_zeros(out, 16);
-    push_bytes(out, &entry.fru);
-    push_zeros(out, 8);
-    push_bytes(out, entry.body.as_slice());
 }
 
 fn count_of(severity: u32, entries: &[Entry]) -> usize
@@ -83,8 +70,8 @@ fn status_of(entries: &[Entry]) -> u32
     requires { length entries.now ≤ 5 }
     ensures { result ≡ block_status entries.now }
 {
-    let uncorrected = count_of(0, entries) + count_of(1, entries);
-    let corrected = count_of(2, entries);
+    let uncorrected = count_of(RECOVERABLE, entries) + count_of(FATAL, entries);
+    let corrected = count_of(CORRECTED, entries);
     u32::from(uncorrected > 0)
         + 2 * u32::from(corrected > 0)
         + 4 * u32::from(uncorrected > 1)
@@ -95,14 +82,14 @@ fn status_of(entries: &[Entry]) -> u32
 fn worst_severity(entries: &[Entry]) -> u32
     ensures { result ≡ worst_severity entries.now }
 {
-    if count_of(1, entries) > 0 {
-        1
-    } else if count_of(0, entries) > 0 {
-        0
-    } else if count_of(2, entries) > 0 {
-        2
+    if count_of(FATAL, entries) > 0 {
+        FATAL
+    } else if count_of(RECOVERABLE, entries) > 0 {
+        RECOVERABLE
+    } else if count_of(CORRECTED, entries) > 0 {
+        CORRECTED
     } else {
-        0
+        RECOVERABLE
     }
 }
 

@@ -6,12 +6,16 @@
 
 mod block_reading;
 mod blocks;
+mod entries;
+mod error_source;
 mod refused;
+mod table_header;
 mod table_reading;
 mod tables;
 
 pub use block_reading::{BlockView, read_block};
-pub use blocks::{Entry, status_block};
+pub use blocks::status_block;
+pub use entries::Entry;
 pub use refused::TableRefused;
 pub use table_reading::{BertView, HestView, read_bert, read_hest};
 pub use tables::{bert, hest};

@@ -3,13 +3,13 @@
 ghost use Rattle.std.specs.Prelude.{◌≡◌, ◌≤◌, length, IfOk};
 ghost use Rattle.acpi_tables.specs.Reading.{bert_of, hest_of, source_count, sources_in, table_of};
 
+use crate::error_source::{GENERIC_SOURCE, SOURCE_LENGTH, SOURCE_TYPE};
 use crate::refused::TableRefused;
-use crate::tables::{BERT_LENGTH, GENERIC_SOURCE, sum_over};
-use ras_bits::{u16_at, u32_at, u64_at};
-
-const LEAST_HEST: usize = 40;
-
-const SOURCE_LENGTH: usize = 64;
+use crate::table_header::{LENGTH, SIGNATURE, sum_over};
+use crate::tables::{
+    BERT_LENGTH, BOOT_ERROR_REGION, BOOT_ERROR_REGION_LENGTH, ERROR_SOURCE_COUNT, LEAST_HEST,
+};
+use byte_fields::{u16_in, u32_in, u64_in};
 
 /// What a Hardware Error Source Table says.
 #[derive(Clone, Copy, Debug, PartialEq, Eq)]
@@ -34,7 +34,7 @@ pub fn read_hest(b: &[u8]) -> Result<HestView, TableRefused>
     ensures { result ≡ hest_of b.now }
 {
     let end = read_table(b"HEST", LEAST_HEST, b)?;
-    let sources = u32_at(b, 36);
+    let sources = u32_in(b, 0, ERROR_SOURCE_COUNT);
     read_sources(end, b, sources)?;
     Ok(HestView { sources })
 }
@@ -46,8 +46,8 @@ pub fn read_bert(b: &[u8]) -> Result<BertView, TableRefused>
 {
     read_table(b"BERT", BERT_LENGTH as usize, b)?;
     Ok(BertView {
-        length: u32_at(b, 36),
-        address: u64_at(b, 40),
+        length: u32_in(b, 0, BOOT_ERROR_REGION_LENGTH),
+        address: u64_in(b, 0, BOOT_ERROR_REGION),
     })
 }
 
@@ -62,10 +62,10 @@ fn read_table(signature: &[u8; 4], least: usize, b: &[u8]) -> Result<usize, Tabl
     if b.len() < least {
         return Err(TableRefused::Short);
     }
-    if u32_at(b, 0) != u32_at(signature, 0) {
+    if u32_in(b, 0, SIGNATURE) != u32_in(signature, 0, SIGNATURE) {
         return Err(TableRefused::Signature);
     }
-    let end = u32_at(b, 4) as usize;
+    let end = u32_in(b, 0, LENGTH) as usize;
     if end < least || b.len() < end {
         return Err(TableRefused::Length);
     }
@@ -82,7 +82,7 @@ fn read_sources(end: usize, b: &[u8], count: u32) -> Result<(), TableRefused>
 {
     for i in 0..count {
         let at = LEAST_HEST + SOURCE_LENGTH * i as usize;
-        if end < at + SOURCE_LENGTH || u16_at(b, at) != GENERIC_SOURCE {
+        if end < at + SOURCE_LENGTH || u16_in(b, at, SOURCE_TYPE) != GENERIC_SOURCE {
             return Err(TableRefused::Source(i));
         }
     }

@@ -1,38 +1,57 @@
 //! The tables HEST and BERT.
 
-ghost use Rattle.std.specs.Prelude.{ℕ, List, ◌++◌, Ok, ◌≡◌, ◌+◌, ◌*◌, ◌-◌, ◌%◌, ◌≤◌, ◌<◌, length, sum};
-ghost use Rattle.arrayvec.specs.ArrayVec.{array_vec_len};
-ghost use Rattle.byte_fields.specs.Fields.{joined, with_fields};
-ghost use Rattle.acpi_tables.specs.Layout.{SumsToZero, address_structure, bert_bytes, bert_fields, checksum_of, error_source, hest_bytes, hest_fields, notification_structure, table_header};
+ghost use Rattle.std.specs.Prelude.{ℕ, List, ◌++◌, Ok, ◌≡◌};
+ghost use Rattle.ras_bits.specs.declared.map.TheConstants.{POLLED_POINTER};
+ghost use Rattle.acpi_tables.specs.TableHeader.{SumsToZero};
+ghost use Rattle.acpi_tables.specs.Tables.{bert_bytes, bert_with, hest_bytes, hest_with, status_address};
 ghost use Rattle.acpi_tables.specs.Reading.{bert_of, hest_of};
 
+use crate::error_source::error_source;
+use crate::table_header::{checksum_over, put_header};
 use arrayvec::ArrayVec;
-use byte_fields::{push_bytes, push_u8, push_u16, push_u32, push_u64, push_zeros};
-use ras_bits::{BOOT_REGION_LENGTH, BOOT_REGION_START, POLLED_BLOCK_LENGTH, POLLED_POINTER};
+use byte_fields::{Slot, pad_to, put_bytes, put_u32, put_u64};
+use ras_bits::{BOOT_REGION_LENGTH, BOOT_REGION_START};
+
+pub(crate) const ERROR_SOURCE_COUNT: Slot = Slot {
+    offset: 36,
+    width: 4,
+};
+
+pub(crate) const FIRST_SOURCE: Slot = Slot {
+    offset: 40,
+    width: 64,
+};
+
+pub(crate) const BOOT_ERROR_REGION_LENGTH: Slot = Slot {
+    offset: 36,
+    width: 4,
+};
+
+pub(crate) const BOOT_ERROR_REGION: Slot = Slot {
+    offset: 40,
+    width: 8,
+};
+
+/// The least length of a HEST: one without sources.
+pub(crate) const LEAST_HEST: usize = 40;
 
 const HEST_LENGTH: u32 = 104;
 
 pub(crate) const BERT_LENGTH: u32 = 48;
 
-pub(crate) const GENERIC_SOURCE: u16 = 9;
-
-// What stands for no related source.
-const NO_RELATED_SOURCE: u16 = 0xFFFF;
-
-// How often the polled block is looked at, in milliseconds.
-pub(crate) const POLL_MILLISECONDS: u32 = 1000;
-
-/// The Hardware Error Source Table: one generic source, whose status block is polled each second. Its
-/// address stands at `POLLED_POINTER`.
+/// The Hardware Error Source Table (ACPI, "Hardware Error Source Table"): one generic source, whose status block is polled
+/// each second. Its address stands at `POLLED_POINTER`.
 pub fn hest() -> [u8; 104]
     ensures bytes { result ≡ hest_bytes }
     ensures checked { SumsToZero result }
+    ensures points { status_address result ≡ POLLED_POINTER }
     ensures reads_back { (rest : List ℕ) → hest_of (result ++ rest) ≡ Ok (record { sources = 1 }) }
 {
     hest_with(checksum_over(&hest_with(0)))
 }
 
-/// The Boot Error Record Table: a region of `BOOT_REGION_LENGTH` bytes from `BOOT_REGION_START` on.
+/// The Boot Error Record Table (ACPI, "Boot Error Record Table"): a region of `BOOT_REGION_LENGTH` bytes from
+/// `BOOT_REGION_START` on.
 pub fn bert() -> [u8; 48]
     ensures bytes { result ≡ bert_bytes }
     ensures checked { SumsToZero result }
@@ -42,106 +61,23 @@ pub fn bert() -> [u8; 48]
 }
 
 fn hest_with(checksum: u8) -> [u8; 104]
-    ensures { result ≡ joined (hest_fields checksum) }
+    ensures { result ≡ hest_with checksum }
 {
     let mut table = ArrayVec::<u8, 104>::new();
-    push_header(&mut table, b"HEST", HEST_LENGTH, checksum);
-    push_u32(&mut table, 1);
-    push_source(&mut table);
+    put_header(&mut table, b"HEST", HEST_LENGTH, checksum);
+    put_u32(&mut table, ERROR_SOURCE_COUNT, 1);
+    put_bytes(&mut table, FIRST_SOURCE, &error_source());
+    pad_to(&mut table, HEST_LENGTH as usize);
     table.into_inner().unwrap()
 }
 
 fn bert_with(checksum: u8) -> [u8; 48]
-    ensures { result ≡ joined (bert_fields checksum) }
+    ensures { result ≡ bert_with checksum }
 {
     let mut table = ArrayVec::<u8, 48>::new();
-    push_header(&mut table, b"BERT", BERT_LENGTH, checksum);
-    push_u32(&mut table, BOOT_REGION_LENGTH);
-    push_u64(&mut table, BOOT_REGION_START);
+    put_header(&mut table, b"BERT", BERT_LENGTH, checksum);
+    put_u32(&mut table, BOOT_ERROR_REGION_LENGTH, BOOT_REGION_LENGTH);
+    put_u64(&mut table, BOOT_ERROR_REGION, BOOT_REGION_START);
+    pad_to(&mut table, BERT_LENGTH as usize);
     table.into_inner().unwrap()
-}
-
-fn push_header<const N: usize>(
-    table: &mut ArrayVec<u8, N>,
-    signature: &[u8; 4],
-    table_length: u32,
-    checksum: u8,
-)
-    requires { array_vec_len table.old + 36 ≤ N }
-    ensures items { table.new.items ≡ with_fields table.old.items (table_header signature.now table_length checksum) }
-    ensures len { array_vec_len table.new ≡ array_vec_len table.old + 36 }
-{
-    push_bytes(table, signature);
-    push_u32(table, table_length);
-    push_u8(table, 1);
-    push_u8(table, checksum);
-    push_bytes(table, b"RASMCH");
-    push_bytes(table, b"RASMACHN");
-    push_u32(table, 1);
-    push_bytes(table, b"RASM");
-    push_u32(table, 1);
-}
-
-fn push_source<const N: usize>(table: &mut ArrayVec<u8, N>)
-    requires { array_vec_len table.old + 64 ≤ N }
-    ensures items { table.new.items ≡ with_fields table.old.items error_source }
-    ensures len { array_vec_len table.new ≡ array_vec_len table.old + 64 }
-{
-    push_u16(table, GENERIC_SOURCE);
-    push_u16(table, 0);
-    push_u16(table, NO_RELATED_SOURCE);
-    push_u8(table, 0);
-    push_u8(table, 1);
-    push_u32(table, 1);
-    push_u32(table, 5);
-    push_u32(table, 0);
-    push_address(table, POLLED_POINTER);
-    push_notification(table, POLL_MILLISECONDS);
-    push_u32(table, POLLED_BLOCK_LENGTH);
-}
-
-fn push_address<const N: usize>(table: &mut ArrayVec<u8, N>, address: u64)
-    requires { array_vec_len table.old + 12 ≤ N }
-    ensures items { table.new.items ≡ with_fields table.old.items (address_structure address) }
-    ensures len { array_vec_len table.new ≡ array_vec_len table.old + 12 }
-{
-    push_u8(table, 0);
-    push_u8(table, 64);
-    push_u8(table, 0);
-    push_u8(table, 4);
-    push_u64(table, address);
-}
-
-fn push_notification<const N: usize>(table: &mut ArrayVec<u8, N>, milliseconds: u32)
-    requires { array_vec_len table.old + 28 ≤ N }
-    ensures items { table.new.items ≡ with_fields table.old.items (notification_structure milliseconds) }
-    ensures len { array_vec_len table.new ≡ array_vec_len table.old + 28 }
-{
-    push_u8(table, 0);
-    push_u8(table, 28);
-    push_zeros(table, 2);
-    push_u32(table, milliseconds);
-    push_zeros(table, 4);
-    push_zeros(table, 4);
-    push_zeros(table, 4);
-    push_zeros(table, 4);
-    push_zeros(table, 4);
-}
-
-// The sum of the bytes, modulo 256.
-pub(crate) fn sum_over(bytes: &[u8]) -> u8
-    ensures { result ≡ sum bytes.now % 256 }
-{
-    let mut total = 0u8;
-    for byte in bytes {
-        total = total.wrapping_add(*byte);
-    }
-    total
-}
-
-// The checksum of a table whose checksum byte is 0.
-fn checksum_over(bytes: &[u8]) -> u8
-    ensures { result ≡ (256 - sum bytes.now % 256) % 256 }
-{
-    sum_over(bytes).wrapping_neg()
 }

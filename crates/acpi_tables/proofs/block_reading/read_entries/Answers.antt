@@ -13,7 +13,7 @@ loop-i-preserved c =
     let taken = c.loop-i.entries.items in
     let i = c.loop-i.i in
     let items : c.push.new.self.items ≡ taken ++ entry_section b at ∷ [] = c.push.ensures.items ∙ ap (λ (s : SectionAt). taken ++ s ∷ []) c.entry_section.ensures in
-    let behind : at + 72 + c.u32_at.result ≡ entry_end b at = ap (λ (n : ℕ). at + 72 + n) c.u32_at.ensures in
+    let behind : at + 72 + c.u32_in.result ≡ entry_end b at = ap (λ (n : ℕ). at + 72 + n) c.u32_in.ensures in
     let less : count - (i + 1) ≡ count - i - 1 = omega arith in
     record {
       whole = ap (λ (xs : List SectionAt). entries_from end b count xs (i + 1) (count - (i + 1))) items

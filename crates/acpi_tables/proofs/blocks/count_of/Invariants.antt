@@ -1,5 +1,5 @@
 use Rattle.std.proofs.Common.{◌≡◌, ◌≤◌, take}
-use Rattle.acpi_tables.specs.Layout.{count_of}
+use Rattle.acpi_tables.specs.Blocks.{count_of}
 use Rattle.acpi_tables.proofs.blocks.count_of.Given as goal
 
 abbrev pub invariant-loop-entry : goal.invariant-loop-entry

@@ -1,5 +1,5 @@
 use Rattle.std.proofs.Common.{◌≡◌, ◌≤◌, ◌*◌, take}
-use Rattle.acpi_tables.specs.Layout.{data_length}
+use Rattle.acpi_tables.specs.Blocks.{data_length}
 use Rattle.acpi_tables.proofs.blocks.length_of.Given as goal
 
 abbrev pub invariant-loop-entry : goal.invariant-loop-entry

@@ -2,7 +2,8 @@ use Rattle.std.proofs.Common.{◌≡◌, ◌∙◌, ap, subst, ◌++◌, List, �
 use Rattle.std.specs.List.{All, flat_map}
 use Rattle.std.proofs.lemmas.List.{take_all}
 use Rattle.std.proofs.lemmas.List.Elements.{All-more, recursion_from_All}
-use Rattle.acpi_tables.specs.Layout.{block_bytes, entry_bytes, data_length}
+use Rattle.acpi_tables.specs.Blocks.{block_bytes, data_length}
+use Rattle.acpi_tables.specs.Entries.{entry_bytes}
 use Rattle.acpi_tables.specs.Reading.{block_of}
 use Rattle.acpi_tables.specs.Written.{IsEntry}
 use Rattle.acpi_tables.proofs.BlockLemmas.{entry_written, all_written, empty_block}

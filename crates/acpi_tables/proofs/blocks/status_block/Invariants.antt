@@ -1,7 +1,8 @@
 use Rattle.std.proofs.Common.{◌≡◌, ◌+◌, ◌*◌, ◌≤◌, ◌++◌, take, drop}
 use Rattle.std.specs.List.{All, flat_map}
 use Rattle.arrayvec.specs.ArrayVec.{array_vec_len}
-use Rattle.acpi_tables.specs.Layout.{block_bytes, entry_bytes}
+use Rattle.acpi_tables.specs.Blocks.{block_bytes}
+use Rattle.acpi_tables.specs.Entries.{entry_bytes}
 use Rattle.acpi_tables.specs.Written.{IsEntry}
 use Rattle.acpi_tables.proofs.blocks.status_block.Given as goal
 

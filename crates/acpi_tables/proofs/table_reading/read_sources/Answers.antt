@@ -6,5 +6,5 @@ pub loop-i-preserved : goal.loop-i-preserved
 loop-i-preserved c =
     let less : c.args.count - (c.loop-i.i + 1) ≡ c.args.count - c.loop-i.i - 1 = omega arith in
     ap (sources_from c.args.end c.args.b.now (c.loop-i.i + 1)) less
-    ∙ sym (source_read c.args.end c.args.b.now c.loop-i.i (c.args.count - c.loop-i.i) (omega arith) (omega arith) (sym c.u16_at.ensures ∙ c.if-u16_at-ne-GENERIC_SOURCE.false))
+    ∙ sym (source_read c.args.end c.args.b.now c.loop-i.i (c.args.count - c.loop-i.i) (omega arith) (omega arith) (sym c.u16_in.ensures ∙ c.if-u16_in-ne-GENERIC_SOURCE.false))
     ∙ c.loop-i.invariant

@@ -1,5 +1,5 @@
 use Rattle.std.proofs.Common.{◌≡◌, ◌%◌, take, sum}
-use Rattle.acpi_tables.proofs.tables.sum_over.Given as goal
+use Rattle.acpi_tables.proofs.table_header.sum_over.Given as goal
 
 abbrev pub invariant-loop-byte : goal.invariant-loop-byte
 invariant-loop-byte l = l.total ≡ sum (take l.byte-index l.bytes) % 256
