@@ -1,6 +1,10 @@
 pub mod Registers
 pub mod Views
+pub mod States
 pub mod Cells
 pub mod Emitting
 pub mod Sent
 pub mod Alone
+pub mod Shown
+pub mod Written
+pub mod Pointing

@@ -1,17 +1,16 @@
 -- The views that were emitted, by the records that they name.
-use Rattle.std.proofs.Common.{◌≡◌, ℕ, ◌+◌, ◌-◌, ◌^◌, ◌<◌, ◌≤◌, min, nat_lt, Bool, true, false, cond, List, [], ◌∷◌, ◌++◌, length, take, Option, Some, None, IfSome, refl, sym, ap, ◌∙◌, arith, length-append, append_assoc}
+use Rattle.std.proofs.Common.{◌≡◌, ℕ, ◌+◌, ◌-◌, ◌^◌, ◌<◌, ◌≤◌, min, nat_lt, Bool, true, false, cond, List, [], ◌∷◌, ◌++◌, length, take, Option, Some, None, IfSome, refl, subst, sym, ap, ◌∙◌, arith, length-append, append_assoc}
 use Rattle.std.proofs.lemmas.List.{append-nil, take-append-le, take_all, length-take-le}
 use Rattle.std.specs.Option.{option_to_list}
 use Rattle.poison_mem.specs.declared.event.RecordView.{RecordView}
 use Rattle.reri_bank.specs.Views.{IsOf}
 use Rattle.reri_bank.specs.StateAt.{is_record}
-use Rattle.ras_firmware.specs.KeptState.{KeptState}
-use Rattle.ras_firmware.specs.Kept.{with_view, with_all}
-use Rattle.ras_firmware.specs.Whole.{those_of, first_views}
+use Rattle.ras_firmware.specs.Records.{KeptState, with_view, with_all, first_views}
+use Rattle.ras_firmware.specs.Sent.{those_of}
 use Rattle.poison_mem.specs.RecordId.{bank_number, record_number, all_records}
 use Rattle.poison_mem.specs.declared.record_id.RecordId.{RecordId}
 use Rattle.poison_mem.specs.declared.record_id.RecordId.TheVariants.{Read, Scrub, L1, L2, Hart}
-use Rattle.std.specs.List.{AllByRecursion}
+use Rattle.std.specs.List.{AllByRecursion, cons_option, filter_map, flat_map}
 use Rattle.std.proofs.lemmas.List.Elements.{filter-append}
 use Rattle.ras_firmware.specs.declared.records.TheConstants.{MOST_RECORDS}
 use Rattle.ras_firmware.proofs.Views.{all-append}
@@ -31,11 +30,13 @@ those_of-append p xs ys = filter-append (λ (v : RecordView). is_record v.kept.b
 both_parts : (p : RecordId) (xs ys xs' ys' : List RecordView) → those_of p xs ≡ xs' → those_of p ys ≡ ys' → those_of p (xs ++ ys) ≡ xs' ++ ys'
 both_parts p xs ys xs' ys' h k = those_of-append p xs ys ∙ ap (λ l. l ++ those_of p ys) h ∙ ap (λ l. xs' ++ l) k
 
--- one view of each record, in the order of banks and records
-abbrev pub five : (RecordId → Option RecordView) → List RecordView
-five f =
-    option_to_list (f Read) ++ option_to_list (f Scrub) ++ option_to_list (f L1) ++ option_to_list (f L2)
-    ++ option_to_list (f Hart)
+-- a view of each of these records
+given : (RecordId → Option RecordView) → RecordId → RecordId → List RecordView
+given f p q = cond (is_record (bank_number q) (record_number q) p) (option_to_list (f q)) []
+
+consed : (o : Option RecordView) (xs : List RecordView) → cons_option o xs ≡ option_to_list o ++ xs
+consed None xs = refl
+consed (Some v) xs = refl
 
 one_at : (p q : RecordId) (o : Option RecordView) → Named q o → those_of p (option_to_list o) ≡ cond (is_record (bank_number q) (record_number q) p) (option_to_list o) []
 one_at p q None h = by_name (is_record (bank_number q) (record_number q) p)
@@ -45,32 +46,41 @@ one_at p q None h = by_name (is_record (bank_number q) (record_number q) p)
     by_name false = refl
 one_at p q (Some v) h = rw (h.bank_is, h.rec_is) refl
 
-pub five_at : (f : RecordId → Option RecordView) → ((q : RecordId) → Named q (f q)) → (p : RecordId) → those_of p (five f) ≡ option_to_list (f p)
-five_at f named p = parted ∙ only p
+parted : (f : RecordId → Option RecordView) → ((q : RecordId) → Named q (f q)) → (p : RecordId) (ids : List RecordId) → those_of p (filter_map f ids) ≡ flat_map (given f p) ids
+unfolding given
+parted f named p [] = refl
+parted f named p (q ∷ ids) = ap (those_of p) (consed (f q) (filter_map f ids)) ∙ both_parts p (option_to_list (f q)) (filter_map f ids) _ _ (one_at p q (f q) (named q)) (parted f named p ids)
+
+-- of one view of each record those of a record are its own
+pub each_at : (f : RecordId → Option RecordView) → ((q : RecordId) → Named q (f q)) → (p : RecordId) → those_of p (filter_map f all_records) ≡ option_to_list (f p)
+unfolding given
+each_at f named p = parted f named p all_records ∙ only p
   where
-    part : RecordId → List RecordView
-    part q = cond (is_record (bank_number q) (record_number q) p) (option_to_list (f q)) []
-
-    parted : those_of p (five f) ≡ part Read ++ part Scrub ++ part L1 ++ part L2 ++ part Hart
-    parted =
-        both_parts p _ _ _ _ (both_parts p _ _ _ _ (both_parts p _ _ _ _ (both_parts p _ _ _ _ (one_at p Read (f Read) (named Read)) (one_at p Scrub (f Scrub) (named Scrub)))
-        (one_at p L1 (f L1) (named L1))) (one_at p L2 (f L2) (named L2))) (one_at p Hart (f Hart) (named Hart))
-
-    only : (r : RecordId) → (let at = λ (q : RecordId). cond (is_record (bank_number q) (record_number q) r) (option_to_list (f q)) [] in at Read ++ at Scrub ++ at L1 ++ at L2 ++ at Hart) ≡ option_to_list (f r)
-    only Read = simp append-nil refl
-    only Scrub = simp append-nil refl
-    only L1 = simp append-nil refl
-    only L2 = simp append-nil refl
-    only Hart = refl
+    only : (r : RecordId) → flat_map (given f r) all_records ≡ option_to_list (f r)
+    only Read = append-nil _
+    only Scrub = append-nil _
+    only L1 = append-nil _
+    only L2 = append-nil _
+    only Hart = append-nil _
 
 one_placed : (q : RecordId) (o : Option RecordView) → Named q o → AllByRecursion NamesOne (option_to_list o)
 one_placed q None h = tt
 one_placed q (Some v) h = ((q, h), tt)
 
-pub five_placed : (f : RecordId → Option RecordView) → ((q : RecordId) → Named q (f q)) → AllByRecursion NamesOne (five f)
-five_placed f named =
-    all-append NamesOne _ _ (all-append NamesOne _ _ (all-append NamesOne _ _ (all-append NamesOne _ _ (one_placed Read (f Read) (named Read)) (one_placed Scrub (f Scrub) (named Scrub)))
-    (one_placed L1 (f L1) (named L1))) (one_placed L2 (f L2) (named L2))) (one_placed Hart (f Hart) (named Hart))
+pub each_placed : (f : RecordId → Option RecordView) → ((q : RecordId) → Named q (f q)) → (ids : List RecordId) → AllByRecursion NamesOne (filter_map f ids)
+each_placed f named [] = tt
+each_placed f named (q ∷ ids) =
+    subst (AllByRecursion NamesOne) (sym (consed (f q) (filter_map f ids)))
+    (all-append NamesOne (option_to_list (f q)) (filter_map f ids) (one_placed q (f q) (named q)) (each_placed f named ids))
+
+-- one view of each record at most
+pub few_given : (f : RecordId → Option RecordView) (ids : List RecordId) → length (filter_map f ids) ≤ length ids
+few_given f [] = omega arith
+few_given f (q ∷ ids) = one_more (f q) (few_given f ids)
+  where
+    one_more : (o : Option RecordView) → length (filter_map f ids) ≤ length ids → length (cons_option o (filter_map f ids)) ≤ length (q ∷ ids)
+    one_more None h = omega (arith, h)
+    one_more (Some v) h = omega (arith, h)
 
 more_at : (p : RecordId) (v : RecordView) (vs : List RecordView) → length (those_of p (v ∷ vs)) ≡ length (those_of p vs) + cond (is_record v.kept.bank v.kept.rec p) 1 0
 more_at p v vs = by_name (is_record v.kept.bank v.kept.rec p)

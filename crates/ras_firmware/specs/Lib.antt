@@ -1,7 +1,8 @@
-pub mod KeptState
-pub mod Kept
+pub mod Records
 pub mod Notes
 pub mod Drain
-pub mod Drains
+pub mod DrainLaws
+pub mod Memory
+pub mod Firmware
 pub mod Pieces
-pub mod Whole
+pub mod Sent

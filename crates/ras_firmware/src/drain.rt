@@ -1,26 +1,30 @@
 //! The drain: valid signalled records are noted, and later emptied where no event came between.
 
-ghost use Rattle.std.specs.Prelude.{◌≡◌, ◌<◌, ◌+◌, ◌*◌, IfSome};
-ghost use Rattle.poison_mem.specs.RecordId.{record_id};
+ghost use Rattle.std.specs.Prelude.{◌≡◌, ◌+◌, ◌*◌, ◌<◌, ℕ, IfSome};
+ghost use Rattle.std.specs.List.{AllByRecursion};
+ghost use Rattle.poison_mem.specs.RecordId.{bank_number, record_number, record_id};
+ghost use Rattle.poison_mem.specs.RecordView.{IsListedView};
+ghost use Rattle.reri_bank.specs.Bank.{record_at, with_record, record_count, eid_of};
+ghost use Rattle.reri_bank.specs.BankState.{AreHeld, kind_number};
+ghost use Rattle.reri_bank.specs.Banks.{bank_at, with_bank, records_of};
 ghost use Rattle.reri_bank.specs.Layout.{control_word};
 ghost use Rattle.reri_bank.specs.State.{state_marked, state_emptied};
-ghost use Rattle.reri_bank.specs.BankState.{AreHeld, kind_number};
-ghost use Rattle.reri_bank.specs.Bank.{record_at, with_record, record_count, eid_of};
-ghost use Rattle.reri_bank.specs.Banks.{bank_at, with_bank, records_of};
-ghost use Rattle.ras_firmware.specs.Kept.{with_all};
-ghost use Rattle.ras_firmware.specs.Notes.{Notes, no_notes, named_note, with_named_note, IsNote};
-ghost use Rattle.ras_firmware.specs.Drain.{signals, is_signalled, note_of, marked, emission, cleared};
-ghost use Rattle.ras_firmware.specs.Drains.{notes_of, marked_banks, cleared_banks, emissions, all_kept};
-ghost use Rattle.poison_mem.specs.RecordView.{IsListedView};
+ghost use Rattle.reri_bank.specs.StateAt.{state_at};
+ghost use Rattle.ras_firmware.specs.Drain.{signals, is_signalled, note_of, marked, emission, cleared, with_state, notes_of, marked_banks, cleared_banks, emissions, all_kept, fatal_view};
+ghost use Rattle.ras_firmware.specs.Memory.{with_polled, with_region};
+ghost use Rattle.ras_firmware.specs.Notes.{Notes, no_notes, note_at, named_note, with_named_note, index_of, IsNote, AreNotes};
+ghost use Rattle.ras_firmware.specs.Records.{with_all};
 
+use crate::memory::{FirmMemory, MOST_VIEWS};
 use crate::records::Records;
+use arrayvec::ArrayVec;
 use poison_mem::{Class, RecordId, RecordView};
 use ras_bits::{has_bit, put_field};
 use reri_bank::{Bank, Banks, CONTROL, Control, RDIP, SINV, SRDP, STATUS, STRIDE, control_of};
 use std::marker::Model;
 
-/// The offset of the control register of a record.
-fn control_offset(rec: u8) -> u16
+/// The offset of the control register of a record of a bank.
+pub(crate) fn control_offset(rec: u8) -> u16
     requires { rec < 2 }
     ensures { result ≡ CONTROL + STRIDE * rec }
 {
@@ -116,63 +120,79 @@ fn signalled_view(bank: &Bank, rec: u8) -> Option<RecordView>
 }
 
 /// Notes a record where it is valid and signalled, and sets its `rdip`.
-fn mark_record(banks: &mut Banks, bank: u8, rec: u8) -> Option<RecordView>
-    requires bank { bank < 3 }
-    requires rec { rec < records_of bank }
-    ensures note { result ≡ note_of (record_at (bank_at banks.old bank) rec) }
-    ensures listed { IfSome result (IsNote bank rec) }
-    ensures banks { banks.new ≡ with_bank banks.old bank (λ k. with_record k rec marked) }
+fn mark_record(banks: &mut Banks, id: RecordId) -> Option<RecordView>
+    ensures note { result ≡ note_of (state_at banks.old id) }
+    ensures listed { IfSome result (IsNote (bank_number id) (record_number id)) }
+    ensures banks { banks.new ≡ with_state banks.old id marked }
 {
-    let note = signalled_view(banks.bank(bank), rec);
+    let note = signalled_view(banks.bank(id.bank()), id.record());
     if note.is_some() {
-        write_srdp(banks, bank, rec);
+        write_srdp(banks, id.bank(), id.record());
     }
     note
 }
 
 /// Empties a noted record where no event came since. What was noted is then the answer.
-fn clear_record(
-    banks: &mut Banks,
-    bank: u8,
-    rec: u8,
-    note: Option<RecordView>,
-) -> Option<RecordView>
-    requires bank { bank < 3 }
-    requires rec { rec < records_of bank }
-    requires note { IfSome note (IsNote bank rec) }
-    ensures emitted { result ≡ emission note (record_at (bank_at banks.old bank) rec) }
+fn clear_record(banks: &mut Banks, id: RecordId, note: Option<RecordView>) -> Option<RecordView>
+    requires { IfSome note (IsNote (bank_number id) (record_number id)) }
+    ensures emitted { result ≡ emission note (state_at banks.old id) }
     ensures listed { IfSome result IsListedView }
-    ensures banks { banks.new ≡ with_bank banks.old bank (λ k. with_record k rec (cleared note)) }
+    ensures banks { banks.new ≡ with_state banks.old id (cleared note) }
 {
     match note {
         None => None,
         Some(view) => {
-            let is_unchanged = reads_rdip(banks.bank(bank), rec);
-            write_sinv(banks, bank, rec);
+            let is_unchanged = reads_rdip(banks.bank(id.bank()), id.record());
+            write_sinv(banks, id.bank(), id.record());
             if is_unchanged { Some(view) } else { None }
         }
     }
 }
 
+/// What a record shows.
+fn kept_by(banks: &Banks, id: RecordId) -> Option<RecordView>
+    ensures kept { result ≡ (state_at banks.now id).kept }
+    ensures listed { IfSome result IsListedView }
+{
+    banks.bank(id.bank()).kept(id.record())
+}
+
+/// The place of a record among all.
+fn index_of(id: RecordId) -> usize
+    ensures { result ≡ index_of id }
+{
+    match id {
+        RecordId::Read => 0,
+        RecordId::Scrub => 1,
+        RecordId::L1 => 2,
+        RecordId::L2 => 3,
+        RecordId::Hart => 4,
+    }
+}
+
+/// The note of a record.
+fn note_at(notes: &[Option<RecordView>; 5], id: RecordId) -> Option<RecordView>
+    requires { AreNotes notes.now }
+    ensures note { result ≡ note_at notes.now id }
+    ensures listed { IfSome result (IsNote (bank_number id) (record_number id)) }
+{
+    notes[index_of(id)]
+}
+
 /// What firmware has noted of each record in the first step of the drain.
 #[derive(Drop)]
 pub struct Drain {
-    read: Option<RecordView>,
-    scrub: Option<RecordView>,
-    l1: Option<RecordView>,
-    l2: Option<RecordView>,
-    hart: Option<RecordView>,
+    notes: [Option<RecordView>; 5],
 }
 
 impl Model for Drain {
-    ghost use Rattle.std.specs.Prelude.{IfSome};
-    ghost use Rattle.ras_firmware.specs.Notes.{Notes, IsNote};
+    ghost use Rattle.ras_firmware.specs.Notes.{Notes, AreNotes};
 
     ghost Value = { Notes };
 
-    ghost view = { λ d. record { read = d.read; scrub = d.scrub; l1 = d.l1; l2 = d.l2; hart = d.hart } };
+    ghost view = { λ d. d.notes };
 
-    ghost invariant = { λ d. IfSome d.read (IsNote 0 0) × (IfSome d.scrub (IsNote 0 1) × (IfSome d.l1 (IsNote 1 0) × (IfSome d.l2 (IsNote 1 1) × IfSome d.hart (IsNote 2 0)))) };
+    ghost invariant = { λ d. AreNotes d.notes };
 }
 
 impl Drain {
@@ -180,13 +200,7 @@ impl Drain {
     pub fn new() -> Drain
         ensures { result ≡ no_notes }
     {
-        Drain {
-            read: None,
-            scrub: None,
-            l1: None,
-            l2: None,
-            hart: None,
-        }
+        Drain { notes: [None; 5] }
     }
 
     /// Notes what each valid signalled record shows, and sets its `rdip` by `srdp`. Every older note is forgotten.
@@ -194,26 +208,24 @@ impl Drain {
         ensures notes { self.new ≡ notes_of banks.old }
         ensures banks { banks.new ≡ marked_banks banks.old }
     {
-        self.read = mark_record(banks, 0, 0);
-        self.scrub = mark_record(banks, 0, 1);
-        self.l1 = mark_record(banks, 1, 0);
-        self.l2 = mark_record(banks, 1, 1);
-        self.hart = mark_record(banks, 2, 0);
+        self.notes = marked_notes(banks);
     }
 
     /// Writes `sinv` to each noted record. Where its `rdip` was still set, no event came since, the record is empty then,
     /// and what was noted is emitted; else the record stays. Afterwards no note is left.
-    pub fn clear(&mut self, banks: &mut Banks, out: &mut Records)
+    ///
+    /// What is emitted goes to `out`, in the order of banks and records, and is shown in the polled block of `firm`; where
+    /// nothing is, the block stays.
+    pub fn clear(&mut self, banks: &mut Banks, out: &mut Records, firm: &mut FirmMemory)
         ensures notes { self.new ≡ no_notes }
         ensures banks { banks.new ≡ cleared_banks self.old banks.old }
         ensures emitted { out.new ≡ with_all out.old (emissions self.old banks.old) }
+        ensures polled { firm.new ≡ with_polled firm.old (emissions self.old banks.old) }
     {
-        out.emit_some(clear_record(banks, 0, 0, self.read));
-        out.emit_some(clear_record(banks, 0, 1, self.scrub));
-        out.emit_some(clear_record(banks, 1, 0, self.l1));
-        out.emit_some(clear_record(banks, 1, 1, self.l2));
-        out.emit_some(clear_record(banks, 2, 0, self.hart));
-        *self = Drain::new();
+        let emitted = emissions(&self.notes, banks);
+        out.emit_all(emitted.as_slice());
+        firm.show_polled(emitted.as_slice());
+        self.notes = [None; 5];
     }
 
     /// The note of a record, None exactly where none is left. The bank and the record exist.
@@ -225,11 +237,7 @@ impl Drain {
     {
         match RecordId::named(bank, rec) {
             None => None,
-            Some(RecordId::Read) => self.read,
-            Some(RecordId::Scrub) => self.scrub,
-            Some(RecordId::L1) => self.l1,
-            Some(RecordId::L2) => self.l2,
-            Some(RecordId::Hart) => self.hart,
+            Some(id) => note_at(&self.notes, id),
         }
     }
 
@@ -242,32 +250,72 @@ impl Drain {
     {
         match RecordId::named(bank, rec) {
             None => {}
-            Some(RecordId::Read) => self.read = v,
-            Some(RecordId::Scrub) => self.scrub = v,
-            Some(RecordId::L1) => self.l1 = v,
-            Some(RecordId::L2) => self.l2 = v,
-            Some(RecordId::Hart) => self.hart = v,
+            Some(id) => self.notes[index_of(id)] = v,
         }
     }
 }
 
-/// Emits what every valid record shows, in the order of banks and records.
-pub fn finish(banks: &Banks, out: &mut Records)
-    ensures { out.new ≡ with_all out.old (all_kept banks.now) }
+/// The notes of a mark.
+fn marked_notes(banks: &mut Banks) -> [Option<RecordView>; 5]
+    ensures notes { result ≡ notes_of banks.old }
+    ensures each { AreNotes result }
+    ensures banks { banks.new ≡ marked_banks banks.old }
 {
-    out.emit_some(kept_listed(banks, 0, 0));
-    out.emit_some(kept_listed(banks, 0, 1));
-    out.emit_some(kept_listed(banks, 1, 0));
-    out.emit_some(kept_listed(banks, 1, 1));
-    out.emit_some(kept_listed(banks, 2, 0));
+    let mut notes = [None; 5];
+    for (i, id) in RecordId::ALL.iter().enumerate() {
+        notes[i] = mark_record(banks, *id);
+    }
+    notes
 }
 
-/// What a record shows.
-fn kept_listed(banks: &Banks, bank: u8, rec: u8) -> Option<RecordView>
-    requires bank { bank < 3 }
-    requires rec { rec < records_of bank }
-    ensures kept { result ≡ (record_at (bank_at banks.now bank) rec).kept }
+/// Clears the noted records, and answers what they emit.
+fn emissions(notes: &[Option<RecordView>; 5], banks: &mut Banks) -> ArrayVec<RecordView, MOST_VIEWS>
+    requires { AreNotes notes.now }
+    ensures views { result.items ≡ emissions notes.now banks.old }
+    ensures listed { AllByRecursion IsListedView result.items }
+    ensures banks { banks.new ≡ cleared_banks notes.now banks.old }
+{
+    let mut emitted = ArrayVec::new();
+    for id in RecordId::ALL.iter() {
+        match clear_record(banks, *id, note_at(notes, *id)) {
+            None => {}
+            Some(view) => emitted.push(view),
+        }
+    }
+    emitted
+}
+
+/// Emits what every valid record shows, in the order of banks and records. Where `fatal` names a record, the boot error
+/// region shows what that one does.
+pub fn finish(banks: &Banks, out: &mut Records, firm: &mut FirmMemory, fatal: Option<(u8, u8)>)
+    ensures emitted { out.new ≡ with_all out.old (all_kept banks.now) }
+    ensures region { firm.new ≡ with_region firm.old (fatal_view banks.now fatal) }
+{
+    out.emit_all(all_kept(banks).as_slice());
+    firm.show_fatal(fatal_view(banks, fatal));
+}
+
+/// What every valid record shows.
+fn all_kept(banks: &Banks) -> ArrayVec<RecordView, MOST_VIEWS>
+    ensures views { result.items ≡ all_kept banks.now }
+    ensures listed { AllByRecursion IsListedView result.items }
+{
+    let mut kept = ArrayVec::new();
+    for id in RecordId::ALL.iter() {
+        match kept_by(banks, *id) {
+            None => {}
+            Some(view) => kept.push(view),
+        }
+    }
+    kept
+}
+
+/// What the record shows that a bank and a number name, where they name one.
+fn fatal_view(banks: &Banks, fatal: Option<(u8, u8)>) -> Option<RecordView>
+    ensures view { result ≡ fatal_view banks.now fatal }
     ensures listed { IfSome result IsListedView }
 {
-    banks.bank(bank).kept(rec)
+    let (bank, rec) = fatal?;
+    let id = RecordId::named(bank, rec)?;
+    kept_by(banks, id)
 }

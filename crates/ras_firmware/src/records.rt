@@ -1,9 +1,9 @@
 //! The records that the firmware has emitted.
 
-ghost use Rattle.std.specs.Prelude.{◌≡◌, ◌≤◌, ◌<◌, ℕ, length, IfOk, IfSome};
-ghost use Rattle.ras_firmware.specs.KeptState.{KeptState};
-ghost use Rattle.ras_firmware.specs.Kept.{IsKept, with_view, with_option, no_records};
+ghost use Rattle.std.specs.Prelude.{◌≡◌, ◌≤◌, ◌<◌, ℕ, length, IfOk};
+ghost use Rattle.std.specs.List.{AllByRecursion};
 ghost use Rattle.poison_mem.specs.RecordView.{IsListedView};
+ghost use Rattle.ras_firmware.specs.Records.{IsKept, with_view, with_all, no_records};
 
 use poison_mem::RecordView;
 use ras_bits::NoMemory;
@@ -21,17 +21,16 @@ pub struct Records {
 }
 
 impl Model for Records {
-    ghost use Rattle.std.specs.Prelude.{◌≡◌, ◌≤◌, ◌<◌, length, vec_capacity};
-    ghost use Rattle.ras_firmware.specs.KeptState.{KeptState};
-    ghost use Rattle.std.specs.List.{AllByRecursion};
-    ghost use Rattle.poison_mem.specs.RecordView.{IsListedView};
+    ghost use Rattle.std.specs.Prelude.{◌≤◌, vec_capacity};
+    ghost use Rattle.ras_firmware.specs.Records.{KeptState, IsKept};
     ghost use Rattle.ras_firmware.specs.declared.records.TheConstants.{MOST_RECORDS};
 
     ghost Value = { KeptState };
 
     ghost view = { λ r. record { views = r.views.items; left_out = r.dropped } };
 
-    ghost invariant = { λ r. (MOST_RECORDS ≤ vec_capacity r.views) × ((length r.views.items ≤ MOST_RECORDS) × (AllByRecursion IsListedView r.views.items × (0 < r.dropped → length r.views.items ≡ MOST_RECORDS))) };
+    ghost invariant = { λ r. (MOST_RECORDS ≤ vec_capacity r.views)
+        × IsKept (record { views = r.views.items; left_out = r.dropped }) };
 }
 
 impl Records {
@@ -48,6 +47,7 @@ impl Records {
         ensures views { result.now ≡ self.now.views }
         ensures kept { IsKept self.now }
     {
+        // The number dropped is read for the second clause alone.
         let _ = &self.dropped;
         self.views.as_slice()
     }
@@ -86,14 +86,13 @@ impl Records {
         }
     }
 
-    /// Emits a view, where there is one.
-    pub(crate) fn emit_some(&mut self, view: Option<RecordView>)
-        requires { IfSome view IsListedView }
-        ensures { self.new ≡ with_option self.old view }
+    /// Emits views, in order.
+    pub(crate) fn emit_all(&mut self, views: &[RecordView])
+        requires { AllByRecursion IsListedView views.now }
+        ensures { self.new ≡ with_all self.old views.now }
     {
-        match view {
-            None => {}
-            Some(view) => self.emit(view),
+        for view in views {
+            self.emit(*view);
         }
     }
 }

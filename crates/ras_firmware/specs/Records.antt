@@ -1,10 +1,14 @@
 -- What is kept of what is emitted.
-use Rattle.std.specs.Prelude.{◌≡◌, ◌+◌, ◌-◌, ◌^◌, ◌<◌, ◌≤◌, min, nat_lt, if◌then◌else◌, List, [], ◌∷◌, ◌++◌, length, Option, Some, None}
+use Rattle.std.specs.Prelude.{ℕ, ◌≡◌, ◌+◌, ◌-◌, ◌^◌, ◌<◌, ◌≤◌, min, nat_lt, if◌then◌else◌, List, [], ◌∷◌, ◌++◌, length, take}
 use Rattle.poison_mem.specs.declared.event.RecordView.{RecordView}
-use Rattle.ras_firmware.specs.KeptState.{KeptState}
 use Rattle.std.specs.List.{AllByRecursion, fold}
 use Rattle.ras_firmware.specs.declared.records.TheConstants.{MOST_RECORDS}
 use Rattle.poison_mem.specs.RecordView.{IsListedView}
+
+-- the views that are kept, in order, and the number of those that were left out
+pub record KeptState : Type 0 where
+  pub views : List RecordView
+  pub left_out : ℕ
 
 -- what holds of the emitted records: there are at most so many, and one is left out only where there is none
 pub record IsKept (r : KeptState) : Type 0 where
@@ -22,11 +26,10 @@ with_view r view =
     if nat_lt (length r.views) MOST_RECORDS then record { views = r.views ++ view ∷ []; left_out = r.left_out }
     else record { views = r.views; left_out = min (r.left_out + 1) (2 ^ 64 - 1) }
 
--- a view more, where there is one
-abbrev pub with_option : KeptState → Option RecordView → KeptState
-with_option r None = r
-with_option r (Some view) = with_view r view
-
 -- more views, in order
 abbrev pub with_all : KeptState → List RecordView → KeptState
 with_all r views = fold with_view r views
+
+-- as many first views as are kept, and the number of the others
+abbrev pub first_views : List RecordView → KeptState
+first_views views = record { views = take MOST_RECORDS views; left_out = min (length views - MOST_RECORDS) (2 ^ 64 - 1) }
