@@ -1,5 +1,4 @@
-pub mod Reading
-pub mod Limits
+pub mod Tables
 pub mod Run
-pub mod Texts
-pub mod RunApp
+pub mod Commands
+pub mod Read

@@ -1,10 +1,10 @@
--- What the words of the command `run` mean.
-use Rattle.std.specs.Prelude.{ℕ, Bool, true, false, cond, List, [], ◌∷◌, Option, Some, None, option_and_then, codes}
-use Rattle.std.specs.Str.{bytes_eq}
-use Rattle.ras_words.specs.Limits.{budget_limit, ram_mib_limit, number_within}
-use Rattle.ras_words.specs.Reading.{WordText, Opt, Given, given_by, has, value_of}
+-- What the words of a command that runs the machine mean.
+use Rattle.std.specs.Prelude.{ℕ, Bool, List, Option, Some, None, option_and_then}
+use Rattle.clap_words.specs.Numbers.{number_of_kind}
+use Rattle.clap_words.specs.Reading.{WordText, Opt, Given, given_by, has, value_of}
+use Rattle.ras_words.specs.Tables as tables
 
--- what the command `run` asks for
+-- what a command that runs the machine asks for
 pub record Run : Type 0 where
   pub image : WordText
   pub raw : Bool
@@ -13,42 +13,27 @@ pub record Run : Type 0 where
   pub budget : ℕ
   pub ram_mib : ℕ
 
--- the options of `run`
-abbrev pub run_options : List Opt
-run_options = record { name = codes "raw"; takes_value = false }
-    ∷ record { name = codes "script"; takes_value = true }
-    ∷ record { name = codes "input"; takes_value = true }
-    ∷ record { name = codes "budget"; takes_value = true }
-    ∷ record { name = codes "ram-mib"; takes_value = true } ∷ []
-
--- the plain words of `run`
-abbrev pub run_plain : List WordText
-run_plain = codes "image" ∷ []
+-- the number of an option
+abbrev pub number_in : Opt → Given → Option ℕ
+number_in o given = number_of_kind o.kind (value_of o.name given)
 
 -- the run of an image, where each number is one within its limits
-abbrev pub run_with : Given → WordText → Option ℕ → Option ℕ → Option Run
-run_with given image (Some budget) (Some ram_mib) = Some (record {
+abbrev pub run_with : Given → WordText → ℕ → ℕ → Run
+run_with given image budget ram_mib = record {
   image = image;
-  raw = has (codes "raw") given;
-  script = value_of (codes "script") given;
-  input = value_of (codes "input") given;
+  raw = has tables.raw.name given;
+  script = value_of tables.script.name given;
+  input = value_of tables.input.name given;
   budget = budget;
   ram_mib = ram_mib;
-})
-run_with given image budget ram_mib = None
+}
 
--- the run that options and an image ask for
+-- the run that an image and options ask for
 abbrev pub run_given : Given → Option Run
-run_given given = option_and_then (λ image. run_with given image
-    (number_within budget_limit (value_of (codes "budget") given))
-    (number_within ram_mib_limit (value_of (codes "ram-mib") given)))
-    (value_of (codes "image") given)
+run_given given = option_and_then (λ image. option_and_then (λ budget. option_and_then (λ ram_mib.
+    Some (run_with given image budget ram_mib))
+    (number_in tables.ram_mib given)) (number_in tables.budget given)) (value_of tables.image given)
 
 -- the run that the words after `run` ask for; none where they are refused
 abbrev pub run_after : List WordText → Option Run
-run_after words = option_and_then run_given (given_by run_options run_plain words)
-
--- the run that the words ask for, of which the first is the command
-abbrev pub run_of : List WordText → Option Run
-run_of [] = None
-run_of (command ∷ words) = cond (bytes_eq command (codes "run")) (run_after words) None
+run_after words = option_and_then run_given (given_by tables.run_options tables.run_plain words)

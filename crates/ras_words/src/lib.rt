@@ -4,12 +4,13 @@
 //! are refused.
 #![tactic(auto)]
 
+mod commands;
 mod limits;
-mod run_texts;
-mod run_words;
+mod tables;
 
+pub use clap_words::WordsError;
+pub use commands::{Command, MachineWords, read_words};
 pub use limits::{
     DEFAULT_BUDGET, DEFAULT_RAM_MIB, IMAGE_LIMIT, INPUT_LIMIT, LEAST_RAM_MIB, MOST_RAM_MIB,
     SCRIPT_LIMIT,
 };
-pub use run_words::{RunWords, WordsError, read_words};

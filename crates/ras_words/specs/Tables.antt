@@ -1,0 +1,37 @@
+-- The tables of the commands: their plain words and their options, with the ranges and defaults of numbers.
+use Rattle.std.specs.Prelude.{List, [], ◌∷◌, codes}
+use Rattle.clap_words.specs.Reading.{WordText, Opt}
+use Rattle.clap_words.specs.declared.table.Kind.TheVariants.{Flag, Text, Number}
+use Rattle.ras_words.specs.declared.limits.TheConstants.{STEPS, RAM_SIZE}
+
+-- the image is raw bytes
+abbrev pub raw : Opt
+raw = record { name = codes "raw"; kind = Flag }
+
+-- the file of the script
+abbrev pub script : Opt
+script = record { name = codes "script"; kind = Text }
+
+-- the file of the input
+abbrev pub input : Opt
+input = record { name = codes "input"; kind = Text }
+
+-- the most steps
+abbrev pub budget : Opt
+budget = record { name = codes "budget"; kind = Number STEPS }
+
+-- the size of RAM, in units of 2^20 bytes
+abbrev pub ram_mib : Opt
+ram_mib = record { name = codes "ram-mib"; kind = Number RAM_SIZE }
+
+-- the file of the image, a plain word
+abbrev pub image : WordText
+image = codes "image"
+
+-- the options of `run`
+abbrev pub run_options : List Opt
+run_options = raw ∷ script ∷ input ∷ budget ∷ ram_mib ∷ []
+
+-- the plain words of `run`
+abbrev pub run_plain : List WordText
+run_plain = image ∷ []

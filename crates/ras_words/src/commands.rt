@@ -1,0 +1,94 @@
+//! The words of a command line, of which the first is the command.
+
+ghost use Rattle.std.specs.Prelude.{◌≡◌, IfOk, IfSome, None, Some, Err, option_map};
+ghost use Rattle.clap_words.specs.Table.{texts_of};
+ghost use Rattle.ras_words.specs.Run.{run_given, run_after};
+ghost use Rattle.ras_words.specs.Commands.{command_of};
+ghost use Rattle.ras_words.specs.Read.{command_in, run_in, AreInLimits, IsInLimits};
+
+use crate::tables::{BUDGET, IMAGE, INPUT, RAM_MIB, RAW, RUN, SCRIPT};
+use clap_words::{Given, WordsError, read_given};
+use std::alloc::Global;
+
+/// What a command that runs the machine asks for.
+#[derive(Clone, Copy, Debug, PartialEq)]
+pub struct MachineWords<'a> {
+    /// The name of the image's file.
+    pub image: &'a str,
+    /// Whether the image is raw bytes and no ELF file: `--raw`.
+    pub raw: bool,
+    /// The name of the script's file: `--script`.
+    pub script: Option<&'a str>,
+    /// The name of the input's file: `--input`.
+    pub input: Option<&'a str>,
+    /// The most steps, at most 1,000,000,000: `--budget`, or 10,000,000.
+    pub budget: u64,
+    /// The size of RAM in units of 2^20 bytes, 1 to 64: `--ram-mib`, or 16.
+    pub ram_mib: u64,
+}
+
+/// What a command line asks for.
+#[derive(Clone, Copy, Debug, PartialEq)]
+pub enum Command<'a> {
+    /// `run`: a run of an image.
+    Run(MachineWords<'a>),
+}
+
+// The run that was given, if each number is one within its limits.
+fn run_in<'a>(given: &Given<'a>) -> Option<MachineWords<'a>>
+    ensures run { option_map run_in result ≡ run_given given.now }
+    ensures limits { IfSome result IsInLimits }
+{
+    let image = given.value_of(IMAGE)?;
+    let budget = given.number(&BUDGET)?;
+    let ram_mib = given.number(&RAM_MIB)?;
+    Some(MachineWords {
+        image,
+        raw: given.has(RAW.name),
+        script: given.value_of(SCRIPT.name),
+        input: given.value_of(INPUT.name),
+        budget,
+        ram_mib,
+    })
+}
+
+// The run that the words after `run` ask for.
+fn read_run<'a>(alloc: Global, words: &'a [String]) -> Result<MachineWords<'a>, WordsError>
+    ensures taken { IfOk result (λ run. run_after (texts_of words.entry.now) ≡ Some (run_in run)) }
+    ensures limits { IfOk result IsInLimits }
+    ensures refused { result ≡ Err WordsError.Refused → run_after (texts_of words.entry.now) ≡ None }
+{
+    match read_given(alloc, &RUN, words) {
+        Ok(given) => run_in(&given).ok_or(WordsError::Refused),
+        Err(error) => Err(error),
+    }
+}
+
+/// Reads the words of a command line, without the program's own name: the first is the command,
+/// which is `run`.
+///
+/// A word that begins with `--` names an option by its whole name: `--raw`, `--script FILE`,
+/// `--input FILE`, `--budget N` or `--ram-mib N`. The value follows the first `=` in the word, or is the next word,
+/// which must not begin with `-` unless it is `-` alone. After the word `--` each word is plain.
+/// Options and plain words come in any order. A number is decimal digits, or `0x` and hexadecimal
+/// digits, within the limits of its option.
+///
+/// Refused: no command or another one; an unknown option; another word that begins with `-` and is
+/// longer; an option given twice; a missing or an empty value; a value for `--raw`; a missing,
+/// surplus or empty image; a number that is none or out of its range.
+pub fn read_words<'a>(alloc: Global, words: &'a [String]) -> Result<Command<'a>, WordsError>
+    ensures taken { IfOk result (λ command. command_of (texts_of words.entry.now) ≡ Some (command_in command)) }
+    ensures limits { IfOk result AreInLimits }
+    ensures refused { result ≡ Err WordsError.Refused → command_of (texts_of words.entry.now) ≡ None }
+{
+    let Some((command, rest)) = words.split_first() else {
+        return Err(WordsError::Refused);
+    };
+    if command.as_str() != "run" {
+        return Err(WordsError::Refused);
+    }
+    match read_run(alloc, rest) {
+        Ok(run) => Ok(Command::Run(run)),
+        Err(error) => Err(error),
+    }
+}
