@@ -4,9 +4,9 @@ use Rattle.std.proofs.lemmas.List.Sums.{fold-append}
 use Rattle.poison_mem.specs.declared.record_id.RecordId.TheVariants.{Read, Scrub, L1, L2}
 use Rattle.reri_bank.specs.BanksState.{BanksState}
 use Rattle.reri_bank.specs.StateAt.{state_at}
-use Rattle.reri_inject.specs.Due.{Counted, counted, Rests, Waits, Fires}
-use Rattle.reri_inject.specs.Inject.{state_as, each_counted}
-use Rattle.ras_firmware.specs.Whole.{Whole, FirmwareCall, whole_after, whole_run}
+use Rattle.reri_inject.specs.Inject.{Counted, counted, Rests, Waits, Fires, state_as, each_counted}
+use Rattle.ras_firmware.specs.Firmware.{FirmwareCall, firmware_after, firmware_run}
+use Rattle.ras_firmware.specs.declared.firmware.Firmware.{Firmware}
 use Rattle.ras_machine.specs.CountDowns.{with_banks, calls_as, count_calls}
 
 -- the banks after a count of one record
@@ -23,39 +23,39 @@ abbrev l2_counted : Counted → BanksState → BanksState
 l2_counted c b = record { memory = b.memory; caches = record { kind = b.caches.kind; first = b.caches.first; second = state_as c b.step 1 1 b.caches.second }; hart = b.hart; step = b.step }
 
 -- its calls change that record alone
-run_read : (c : Counted) (w : Whole) → whole_run w (calls_as c Read) ≡ with_banks w (read_counted c w.banks)
+run_read : (c : Counted) (w : Firmware) → firmware_run w (calls_as c Read) ≡ with_banks w (read_counted c w.banks)
 run_read Rests w = refl
 run_read (Waits s) w = refl
 run_read (Fires s) w = refl
 
-run_scrub : (c : Counted) (w : Whole) → whole_run w (calls_as c Scrub) ≡ with_banks w (scrub_counted c w.banks)
+run_scrub : (c : Counted) (w : Firmware) → firmware_run w (calls_as c Scrub) ≡ with_banks w (scrub_counted c w.banks)
 run_scrub Rests w = refl
 run_scrub (Waits s) w = refl
 run_scrub (Fires s) w = refl
 
-run_l1 : (c : Counted) (w : Whole) → whole_run w (calls_as c L1) ≡ with_banks w (l1_counted c w.banks)
+run_l1 : (c : Counted) (w : Firmware) → firmware_run w (calls_as c L1) ≡ with_banks w (l1_counted c w.banks)
 run_l1 Rests w = refl
 run_l1 (Waits s) w = refl
 run_l1 (Fires s) w = refl
 
-run_l2 : (c : Counted) (w : Whole) → whole_run w (calls_as c L2) ≡ with_banks w (l2_counted c w.banks)
+run_l2 : (c : Counted) (w : Firmware) → firmware_run w (calls_as c L2) ≡ with_banks w (l2_counted c w.banks)
 run_l2 Rests w = refl
 run_l2 (Waits s) w = refl
 run_l2 (Fires s) w = refl
 
 -- calls that come to this, and then others
-run_then : (w done : Whole) (calls more : List FirmwareCall) → whole_run w calls ≡ done → whole_run w (calls ++ more) ≡ whole_run done more
-run_then w done calls more is = fold-append whole_after w calls more ∙ ap (λ (w : Whole). whole_run w more) is
+run_then : (w done : Firmware) (calls more : List FirmwareCall) → firmware_run w calls ≡ done → firmware_run w (calls ++ more) ≡ firmware_run done more
+run_then w done calls more is = fold-append firmware_after w calls more ∙ ap (λ (w : Firmware). firmware_run w more) is
 
-pub run_count : (w : Whole) → whole_run w (count_calls w.banks) ≡ with_banks w (each_counted w.banks)
+pub run_count : (w : Firmware) → firmware_run w (count_calls w.banks) ≡ with_banks w (each_counted w.banks)
 run_count w =
     let c = counted (state_at w.banks Read).staged in
     let d = counted (state_at w.banks Scrub).staged in
     let e = counted (state_at w.banks L1).staged in
     let f = counted (state_at w.banks L2).staged in
-    let v : Whole = with_banks w (read_counted c w.banks) in
-    let x : Whole = with_banks w (scrub_counted d v.banks) in
-    let y : Whole = with_banks w (l1_counted e x.banks) in
+    let v : Firmware = with_banks w (read_counted c w.banks) in
+    let x : Firmware = with_banks w (scrub_counted d v.banks) in
+    let y : Firmware = with_banks w (l1_counted e x.banks) in
     run_then w v (calls_as c Read) _ (run_read c w)
     ∙ run_then v x (calls_as d Scrub) _ (run_scrub d v)
     ∙ run_then x y (calls_as e L1) (calls_as f L2) (run_l1 e x)

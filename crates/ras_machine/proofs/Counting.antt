@@ -1,5 +1,5 @@
 -- Counts of the lines that flip a word.
-use Rattle.std.proofs.Common.{ℕ, zero, suc, ◌+◌, ◌≡◌, ◌≤◌, Bool, true, false, ◌&&◌, List, [], ◌∷◌, Option, Some, refl, sym, ap, ◌∙◌, arith, cond, add-one}
+use Rattle.std.proofs.Common.{ℕ, zero, suc, ◌+◌, ◌-◌, ◌≡◌, ◌≤◌, subst, Bool, true, false, ◌&&◌, List, [], ◌∷◌, Option, Some, refl, sym, ap, ◌∙◌, arith, cond, add-one}
 use Rattle.std.specs.Prelude.{◌==◌, nat_le, nat_lt, count_by, if◌then◌else◌}
 use Rattle.std.proofs.lemmas.Bool.Decides.{nat_tests}
 use Rattle.std.proofs.lemmas.List.Sums.{sum_by-cons}
@@ -99,3 +99,22 @@ between_all (line ∷ script) w from to =
 -- one flip more at a word, as a flip of that word
 pub raised_most : (q : ℕ → ℕ) (u w : ℕ) → raised_at q u w ≤ q w + cond (u == w) 1 0
 raised_most q u w = grind (arith, nat_tests)
+
+-- lines of the same steps flip a word as often between two steps
+same_above : (lines read : List ScriptLine) → ((step : ℕ) → at_step step lines ≡ at_step step read) → (w from more : ℕ)
+    → flips_between lines w from (from + more) ≡ flips_between read w from (from + more)
+same_above lines read same w from zero =
+    let e : from + 0 ≡ from = omega arith in
+    rw e (none_between lines w from ∙ sym (none_between read w from))
+same_above lines read same w from (suc more) =
+    let e : from + suc more ≡ (from + more) + 1 = omega arith in
+    rw e (flips_split w from (from + more) lines (omega arith)
+    ∙ ap (λ n. n + flips_of w (at_step (from + more) lines)) (same_above lines read same w from more)
+    ∙ ap (λ now. flips_between read w from (from + more) + flips_of w now) (same (from + more))
+    ∙ sym (flips_split w from (from + more) read (omega arith)))
+
+pub same_flips : (lines read : List ScriptLine) → ((step : ℕ) → at_step step lines ≡ at_step step read) → (w from to : ℕ) → from ≤ to
+    → flips_between lines w from to ≡ flips_between read w from to
+same_flips lines read same w from to low =
+    let e : from + (to - from) ≡ to = omega arith in
+    subst (λ to. flips_between lines w from to ≡ flips_between read w from to) e (same_above lines read same w from (to - from))

@@ -3,15 +3,14 @@ use Rattle.std.proofs.Common.{ℕ, ◌≡◌, ◌≤◌, ◌<◌, List, length, 
 use Rattle.std.specs.Prelude.{slice_index_or}
 use Rattle.std.specs.List.Sorted.{IsNonDecreasingBy}
 use Rattle.std.proofs.lemmas.List.{get_or_default}
-use Rattle.poison_mem.specs.declared.event.Event.{Event}
 use Rattle.poison_mem.specs.Flips.{FlipMeaning}
 use Rattle.fault_script.specs.declared.lines.ScriptLine.{ScriptLine}
 use Rattle.fault_script.specs.declared.lines.Act.TheVariants.{Flip}
 use Rattle.fault_script.specs.Steps.{step_of_line, at_step}
 use Rattle.fault_script.proofs.StepLemmas.{at_step_from_first, at_step_over, is_first_line_of_step}
-use Rattle.ras_machine.specs.declared.protected.Protected.{Protected}
+use Rattle.ras_machine.specs.declared.state.MachineState.{MachineState}
 use Rattle.ras_machine.specs.FirstLine.{IsFirstLineOf}
-use Rattle.ras_machine.specs.Machine.{acts_done}
+use Rattle.ras_machine.specs.Machine.{lines_done}
 
 -- a line that stands past the end of all lines
 abbrev pub no_line : ScriptLine
@@ -38,10 +37,10 @@ from_first_line lines n at d up it =
     ap (λ k. at_step n (drop k lines)) (sym (is_first_line_of_step n lines at d up it.inside (λ i e. it.before i d (omega arith)) (λ inside. it.behind at d (omega arith) inside)))
     ∙ at_step_from_first n lines up
 
-module _ {B L : Type 0} (flips : FlipMeaning B) (logged : L → Event → L) where
+module _ {B : Type 0} (flips : FlipMeaning B) where
   -- no act is left behind a line of a later step
-  pub acts_over : (lines : List ScriptLine) (n k : ℕ) (d : ScriptLine) (first p : Protected B L) → IsNonDecreasingBy step_of_line lines → k < length lines → n < (get_or lines k d).step
-      → acts_done flips logged n (at_step n lines) first ≡ acts_done flips logged n (at_step n (drop k lines)) p
-      → p ≡ acts_done flips logged n (at_step n lines) first
-  acts_over lines n k d first p up inside later left =
-      sym (left ∙ ap (λ lines. acts_done flips logged n lines p) (at_step_over n lines k d up inside later))
+  pub lines_over : (lines : List ScriptLine) (n k : ℕ) (d : ScriptLine) (first s : MachineState B) → IsNonDecreasingBy step_of_line lines → k < length lines → n < (get_or lines k d).step
+      → lines_done flips (at_step n lines) first ≡ lines_done flips (at_step n (drop k lines)) s
+      → s ≡ lines_done flips (at_step n lines) first
+  lines_over lines n k d first s up inside later left =
+      sym (left ∙ ap (λ lines. lines_done flips lines s) (at_step_over n lines k d up inside later))

@@ -4,16 +4,16 @@ use Rattle.std.specs.Prelude.{if◌then◌else◌, IfSome}
 use Rattle.std.proofs.lemmas.Bool.{cases_lt}
 use Rattle.std.proofs.Math.ListN.{length-set}
 use Rattle.poison_mem.specs.Merge.{merged_value}
-use Rattle.rv64_hart.specs.Outcome.{Outcome, End, Store, has_room}
-use Rattle.rv64_hart.specs.Turn.{turn}
+use Rattle.rv64_hart.specs.Outcome.{Outcome, OutcomeEnd, Goes, Stops, Store, has_room}
+use Rattle.rv64_hart.specs.Harts.{end_applied}
 use Rattle.sbi_calls.specs.declared.stop.GuestStop.{GuestStop}
 use Rattle.ras_machine.specs.declared.ending.Ending.{Ending}
 use Rattle.ras_machine.specs.declared.ending.Stop.{Stop}
 use Rattle.ras_machine.specs.Ends.{guest_ends}
 use Rattle.ras_machine.specs.declared.ending.Stop.TheVariants as stops
 use Rattle.ras_machine.specs.Runs.{ended_or}
-use Rattle.ras_machine.specs.Flat.{FlatState, FlatMove, FlatRun, flat_answered, ram_after, flat_outcome, flat_step, flat_run, flat_after}
-use Rattle.ras_machine.specs.TwoRuns.{GoesOn}
+use Rattle.ras_machine.specs.Flat.{FlatState, FlatMove, FlatRun, acting, flat_answered, flat_turn, ram_after, flat_outcome, flat_step, flat_run, flat_after}
+use Rattle.ras_machine.specs.Ways.{GoesOn}
 use Rattle.ras_machine.proofs.Steps.{run_step, run_over}
 
 -- stores keep the number of words
@@ -24,7 +24,7 @@ ram_after-length (s ∷ stores) ram =
 
 outcome-length : (n : ℕ) (s : FlatState) (outcome : Outcome) → length (flat_outcome n s outcome).after.ram ≡ length s.ram
 unfolding flat_outcome
-outcome-length n s (End after stores bytes stop) = either (has_room s.console bytes) _ _ (ram_after-length stores s.ram) refl
+outcome-length n s o = either (has_room s.console o.bytes) _ _ (ram_after-length o.stores s.ram) refl
   where
     either : (fits : Bool) (m m' : FlatMove) → length m.after.ram ≡ length s.ram → length m'.after.ram ≡ length s.ram → length (if fits then m else m').after.ram ≡ length s.ram
     either true m m' fits_here full = fits_here
@@ -36,7 +36,7 @@ unfolding flat_after
 after-length input start zero = refl
 after-length input start (suc n) =
     let f = flat_after input start n in
-    outcome-length n f (flat_answered f.ram (turn (length f.ram) f.hart n input)) ∙ after-length input start n
+    outcome-length n f (flat_answered f.ram (flat_turn input n f)) ∙ after-length input start n
 
 -- the next state
 pub after_next : (input : List ℕ) (start : FlatState) (n : ℕ) → flat_after input start (n + 1) ≡ (flat_step input n (flat_after input start n)).after
@@ -89,21 +89,24 @@ run_spent input start budget goes = run_from input start budget budget goes (ome
 
 -- What holds of each stop but one at poison holds of the stop of a run.
 module _ (P : Stop → Type 0) (shutdown : (reason : ℕ) → P (stops.Shutdown reason)) (reboot : (reboot_kind : ℕ) → P (stops.Reboot reboot_kind)) (spent : P stops.Budget) (full : P stops.ConsoleFull) where
-  guest_stops : (stop : Option GuestStop) (n : ℕ) → IfSome (guest_ends stop n) (λ (e : Ending). P e.stop)
-  guest_stops None n = tt
-  guest_stops (Some (GuestStop.Shutdown reason)) n = shutdown reason
-  guest_stops (Some (GuestStop.Reboot reboot_kind)) n = reboot reboot_kind
-  guest_stops (Some GuestStop.ConsoleFull) n = full
+  guest_stops : (ending : OutcomeEnd) (n : ℕ) → IfSome (guest_ends ending n) (λ (e : Ending). P e.stop)
+  guest_stops (Goes effect) n = tt
+  guest_stops (Stops (GuestStop.Shutdown reason)) n = shutdown reason
+  guest_stops (Stops (GuestStop.Reboot reboot_kind)) n = reboot reboot_kind
+  guest_stops (Stops GuestStop.ConsoleFull) n = full
 
   outcome_stops : (n : ℕ) (s : FlatState) (o : Outcome) → IfSome (flat_outcome n s o).ending (λ (e : Ending). P e.stop)
   unfolding flat_outcome
-  outcome_stops n s (End after stores bytes stop) = by_room (has_room s.console bytes)
+  outcome_stops n s o = by_room (has_room s.console o.bytes)
     where
       by_room : (room : Bool) → let move : FlatMove = if room
-          then record { after = record { hart = after; ram = ram_after s.ram stores; console = s.console ++ bytes }; ending = guest_ends stop n }
+          then record {
+            after = record { harts = end_applied acting o s.harts; place = s.place + o.taken; ram = ram_after s.ram o.stores; console = s.console ++ o.bytes };
+            ending = guest_ends o.ending n;
+          }
           else record { after = s; ending = Some (record { stop = stops.ConsoleFull; steps = n }) } in
           IfSome move.ending (λ (e : Ending). P e.stop)
-      by_room true = guest_stops stop n
+      by_room true = guest_stops o.ending n
       by_room false = full
 
   ended_stops : (e : Option Ending) (s : FlatState) (more : FlatRun) → IfSome e (λ (x : Ending). P x.stop) → P more.ending.stop → P (ended_or e s more).ending.stop

@@ -1,12 +1,15 @@
 pub mod Filled
 pub mod Steps
 pub mod Counting
+pub mod Actions
 pub mod Acts
+pub mod Logging
 pub mod Turns
 pub mod FlatRuns
 pub mod Both
 pub mod Counts
 pub mod FirstLines
-pub mod Runs
+pub mod Stepping
+pub mod Made
 pub mod Machines
 pub mod CountDownCalls

@@ -5,13 +5,13 @@ use Rattle.poison_mem.specs.declared.record_id.RecordId.{RecordId}
 use Rattle.poison_mem.specs.declared.record_id.RecordId.TheVariants.{Read, Scrub, L1, L2}
 use Rattle.reri_bank.specs.BanksState.{BanksState}
 use Rattle.reri_bank.specs.StateAt.{state_at}
-use Rattle.reri_inject.specs.Due.{Counted, counted, Rests, Waits, Fires}
-use Rattle.reri_inject.specs.Inject.{injected}
-use Rattle.ras_firmware.specs.Whole.{Whole, FirmwareCall, LogEvent, SetStaged}
+use Rattle.reri_inject.specs.Inject.{Counted, counted, Rests, Waits, Fires, injected}
+use Rattle.ras_firmware.specs.Firmware.{FirmwareCall, LogEvent, SetStaged}
+use Rattle.ras_firmware.specs.declared.firmware.Firmware.{Firmware}
 
--- the same drain and records over other banks
-abbrev pub with_banks : Whole → BanksState → Whole
-with_banks w banks = record { banks = banks; notes = w.notes; out = w.out; sent = w.sent }
+-- the same drain, records and memory over other banks
+abbrev pub with_banks : Firmware → BanksState → Firmware
+with_banks f banks = record f { banks = banks }
 
 -- the calls that a count of a record is: none, a staging with a step less, or nothing staged and the event logged
 abbrev pub calls_as : Counted → RecordId → List FirmwareCall

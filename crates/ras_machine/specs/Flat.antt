@@ -3,23 +3,35 @@ use Rattle.std.specs.Prelude.{ℕ, zero, suc, ◌+◌, List, [], ◌∷◌, ◌+
 use Rattle.poison_mem.specs.Asking.{Asking, Answer, Ask}
 use Rattle.poison_mem.specs.Merge.{merged_value}
 use Rattle.elf_load.specs.Program.{Program}
-use Rattle.rv64_hart.specs.State.{ArchitecturalState, reset}
-use Rattle.rv64_hart.specs.Outcome.{Outcome, End, Store, has_room}
+use Rattle.rv64_hart.specs.Around.{around_at}
+use Rattle.rv64_hart.specs.Harts.{hart_at, first_harts, end_applied, peers_of}
+use Rattle.rv64_hart.specs.State.{ArchitecturalState}
+use Rattle.rv64_hart.specs.Outcome.{Outcome, Store, has_room}
 use Rattle.rv64_hart.specs.Turn.{turn}
 use Rattle.ras_machine.specs.declared.ending.Stop.TheVariants as stops
 use Rattle.ras_machine.specs.declared.ending.Ending.{Ending}
+use Rattle.ras_machine.specs.declared.flat.TheConstants.{ACTING}
 use Rattle.ras_machine.specs.Ends.{guest_ends}
-use Rattle.ras_machine.specs.Runs.{Move, RunResult, ended_or}
+use Rattle.ras_machine.specs.Runs.{Move, RunResult, ended_or, unless_ended}
 
--- what the flat machine keeps between two steps
+-- what the flat machine keeps between two steps: its harts, how many bytes of the input they took, its RAM and its console
 pub record FlatState : Type 0 where
-  pub hart : ArchitecturalState
+  pub harts : List ArchitecturalState
+  pub place : ℕ
   pub ram : List ℕ
   pub console : List ℕ
 
--- the state that an image starts in: hart 0 enters it, the RAM has its words, and the console is empty
+-- the state that an image starts in: its one hart enters the image, nothing of the input is taken, the RAM has the image's words, and the console is empty
 abbrev pub flat_start : Program → FlatState
-flat_start image = record { hart = reset 0 image.entry; ram = image.words; console = [] }
+flat_start image = record { harts = first_harts 1 image.entry; place = 0; ram = image.words; console = [] }
+
+-- the number of the hart whose turn it is
+abbrev pub acting : ℕ
+acting = ACTING
+
+-- the turn of that hart in step n, in a RAM of so many words
+abbrev pub turn_of : List ℕ → ℕ → ℕ → List ArchitecturalState → ℕ → Asking Outcome
+turn_of input n words harts place = turn (around_at words (peers_of harts) n input place) (hart_at harts acting)
 
 -- what a computation answers where the RAM answers its asks
 abbrev pub flat_answered : {X : Type 0} → List ℕ → Asking X → X
@@ -35,17 +47,24 @@ ram_after ram (s ∷ stores) = ram_after (slice_set ram s.w (merged_value (slice
 abbrev pub FlatMove : Type 0
 FlatMove = Move FlatState
 
--- What step n makes of an outcome: where the console has no room it stops and changes nothing; else the stores and
--- the bytes are applied.
+-- What step n makes of an outcome: where the console has no room it stops and changes nothing; else the stores, the bytes, the
+-- harts' new states and the place are applied.
 unfoldable pub flat_outcome : ℕ → FlatState → Outcome → FlatMove
-flat_outcome n s (End after stores bytes stop) =
-    if has_room s.console bytes
-    then record { after = record { hart = after; ram = ram_after s.ram stores; console = s.console ++ bytes }; ending = guest_ends stop n }
+flat_outcome n s o =
+    if has_room s.console o.bytes
+    then record {
+      after = record { harts = end_applied acting o s.harts; place = s.place + o.taken; ram = ram_after s.ram o.stores; console = s.console ++ o.bytes };
+      ending = guest_ends o.ending n;
+    }
     else record { after = s; ending = Some (record { stop = stops.ConsoleFull; steps = n }) }
+
+-- the turn of step n with this input
+abbrev pub flat_turn : List ℕ → ℕ → FlatState → Asking Outcome
+flat_turn input n s = turn_of input n (length s.ram) s.harts s.place
 
 -- step n with this input: the RAM answers each ask of the turn
 abbrev pub flat_step : List ℕ → ℕ → FlatState → FlatMove
-flat_step input n s = flat_outcome n s (flat_answered s.ram (turn (length s.ram) s.hart n input))
+flat_step input n s = flat_outcome n s (flat_answered s.ram (flat_turn input n s))
 
 -- what a run of the flat machine leaves
 abbrev pub FlatRun : Type 0
@@ -77,12 +96,10 @@ flat_made image budget = record { state = flat_start image; budget = budget; end
 abbrev pub flat_whole : List ℕ → FlatMachine → FlatRun
 flat_whole input m = flat_run input m.budget 0 m.state
 
--- what a run answers: the ending that the machine has, or the whole run's
-abbrev pub flat_ended : Option Ending → List ℕ → FlatMachine → Ending
-flat_ended (Some ending) input m = ending
-flat_ended None input m = (flat_whole input m).ending
+-- a machine after its whole run
+abbrev pub after_run : FlatMachine → FlatRun → FlatMachine
+after_run m run = record m { state = run.after; ended = Some run.ending }
 
--- what a run leaves: a machine that has ended stays
-abbrev pub flat_left : Option Ending → List ℕ → FlatMachine → FlatMachine
-flat_left (Some ending) input m = m
-flat_left None input m = record m { state = (flat_whole input m).after; ended = Some (flat_whole input m).ending }
+-- what a run leaves; a machine that has ended stays as it is
+abbrev pub flat_ran : List ℕ → FlatMachine → FlatMachine
+flat_ran input m = unless_ended m.ended m (after_run m (flat_whole input m))

@@ -1,9 +1,12 @@
 pub mod Settings
 pub mod Ends
 pub mod Runs
+pub mod RunsLaws
+pub mod Acted
 pub mod Flat
 pub mod FirstLine
 pub mod Machine
 pub mod Since
+pub mod Ways
 pub mod TwoRuns
 pub mod CountDowns

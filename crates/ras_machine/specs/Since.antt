@@ -1,20 +1,19 @@
 -- The flips of a word since it was last stored whole.
-use Rattle.std.specs.Prelude.{ℕ, zero, suc, ◌+◌, ◌≤◌, ◌==◌, ◌&&◌, Bool, false, nat_le, nat_lt, List, [], Option, Some, None, length, count_by, if◌then◌else◌}
+use Rattle.std.specs.Prelude.{◌≡◌, ℕ, zero, suc, ◌+◌, ◌≤◌, ◌==◌, ◌&&◌, Bool, false, nat_le, nat_lt, List, [], Option, Some, None, count_by, if◌then◌else◌}
 use Rattle.std.specs.List.{list_any}
 use Rattle.fault_script.specs.declared.lines.Act.{Act}
 use Rattle.fault_script.specs.declared.lines.Act.TheVariants.{Flip, Scrub}
 use Rattle.fault_script.specs.declared.lines.ScriptLine.{ScriptLine}
-use Rattle.rv64_hart.specs.Outcome.{Outcome, End, Store, has_room}
-use Rattle.rv64_hart.specs.Turn.{turn}
-use Rattle.ras_machine.specs.Flat.{FlatState, flat_answered, flat_after}
+use Rattle.rv64_hart.specs.Outcome.{Outcome, Store, has_room}
+use Rattle.ras_machine.specs.Flat.{FlatState, flat_answered, flat_turn, flat_after}
 
 -- the stores that a step of the flat machine makes: none where the console has no room
 abbrev pub stores_of : List ℕ → Outcome → List Store
-stores_of console (End after stores bytes stop) = if has_room console bytes then stores else []
+stores_of console o = if has_room console o.bytes then o.stores else []
 
 -- the stores of step n from this state of the flat machine
 abbrev pub stores_in : List ℕ → ℕ → FlatState → List Store
-stores_in input n s = stores_of s.console (flat_answered s.ram (turn (length s.ram) s.hart n input))
+stores_in input n s = stores_of s.console (flat_answered s.ram (flat_turn input n s))
 
 -- one of the stores is of all eight bytes of word w
 abbrev pub stores_whole : ℕ → List Store → Bool
@@ -38,16 +37,20 @@ is_flip_of w (Scrub u) = false
 
 -- how many lines flip word w in a step from `from` on and below `to`
 abbrev pub flips_between : List ScriptLine → ℕ → ℕ → ℕ → ℕ
-flips_between script w from to = count_by (λ line. is_flip_of w line.act && (nat_le from line.step && nat_lt line.step to)) script
+flips_between lines w from to = count_by (λ line. is_flip_of w line.act && (nat_le from line.step && nat_lt line.step to)) lines
 
 -- the flips of word w since its last whole store, before those of step n
 abbrev pub since_before : List ℕ → FlatState → List ScriptLine → ℕ → ℕ → ℕ
-since_before input start script n w = flips_between script w (step_after (last_whole_store input start w n)) n
+since_before input start lines n w = flips_between lines w (step_after (last_whole_store input start w n)) n
 
 -- the flips of word w since its last whole store, those of step n included
 abbrev pub since : List ℕ → FlatState → List ScriptLine → ℕ → ℕ → ℕ
-since input start script n w = flips_between script w (step_after (last_whole_store input start w n)) (n + 1)
+since input start lines n w = flips_between lines w (step_after (last_whole_store input start w n)) (n + 1)
 
--- no two lines flip the same word
-pub record FlipsEachOnce (script : List ScriptLine) : Type 0 where
-  pub each : (w : ℕ) → count_by (λ line. is_flip_of w line.act) script ≤ 1
+-- at most so many lines flip the same word
+pub record FlipsAtMost (most : ℕ) (lines : List ScriptLine) : Type 0 where
+  pub each : (w : ℕ) → count_by (λ line. is_flip_of w line.act) lines ≤ most
+
+-- the first third flip of a word, in step n and of word w, is told only where three lines or more flip w up to step n
+abbrev pub ThirdTold : List ScriptLine → Option (ℕ × ℕ) → Type 0
+ThirdTold lines beyond = (n w : ℕ) → beyond ≡ Some (n, w) → 3 ≤ flips_between lines w 0 (n + 1)

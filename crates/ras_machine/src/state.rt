@@ -1,49 +1,94 @@
 //! What the machine keeps between two steps, and its steps.
 
-ghost use Rattle.std.specs.Prelude.{◌≡◌, ◌+◌, ◌-◌, ◌<◌, ◌≤◌, ◌^◌, None};
-ghost use Rattle.fault_script.specs.Fits.{IsScriptFor};
+ghost use Rattle.std.specs.Prelude.{◌≡◌, ◌+◌, ◌<◌, ◌≤◌, ◌^◌, None};
+ghost use Rattle.fault_script.specs.Fits.{FitsRamAct, IsScriptFor};
+ghost use Rattle.fault_script.specs.Steps.{at_step};
 ghost use Rattle.ras_machine.specs.FirstLine.{IsFirstLineOf};
 
 use crate::ending::{Ending, Stop, stopped};
-use crate::protected::{Protected, first_line_of};
-use fault_script::ScriptLine;
-use poison_mem::{EventLog, FlipBus};
-use rv64_hart::{Console, Hart, TurnEnd};
+use crate::events::EventCount;
+use crate::flat::ACTING;
+use crate::settings::Settings;
+use fault_script::{Act, ScriptLine};
+use poison_mem::FlipBus;
+use rv64_hart::{Console, Harts, TurnEnd};
 
-/// The hart, the memory, the console, and how many steps are completed.
+/// The harts with the memory that takes faults, how many bytes of the input they took, the count of the events, the first
+/// third flip of a word (its step and its word), the console, and how many steps are completed.
 #[derive(Drop)]
-pub(crate) struct MachineState<B, G> {
-    pub(crate) hart: Hart,
-    pub(crate) protected: Protected<B, G>,
+pub(crate) struct MachineState<B> {
+    pub(crate) shared: Harts<B>,
+    pub(crate) place: u64,
+    pub(crate) log: EventCount,
+    pub(crate) beyond: Option<(u64, u32)>,
     pub(crate) console: Console,
     pub(crate) steps: u64,
 }
 
-impl<B: FlipBus, G: EventLog> MachineState<B, G> {
-    ghost use Rattle.ras_machine.specs.Machine.{moved, hart_step, steps_completed, machine_move, machine_run};
+impl<B: FlipBus> MachineState<B> {
+    ghost use Rattle.ras_machine.specs.Ends.{turn_steps};
+    ghost use Rattle.ras_machine.specs.Machine.{act_done, lines_done, lines_acted, hart_step, hart_acted, machine_step, step_ending};
+
+    /// Does an act of the script.
+    fn act(&mut self, act: Act)
+        requires { FitsRamAct (B.meaning.words self.old.shared.memory) act }
+        ensures after { self.new ≡ act_done B.flips act self.old }
+        ensures words { B.meaning.words self.new.shared.memory ≡ B.meaning.words self.old.shared.memory }
+    {
+        match act {
+            Act::Flip { w, bit } => {
+                let third = self.shared.memory_mut().strike(w, bit);
+                if third && self.beyond.is_none() {
+                    self.beyond = Some((self.steps, w));
+                }
+            }
+            Act::Scrub { w } => self.shared.memory_mut().scrub(w, &mut self.log),
+        }
+    }
+
+    /// Does the acts of this step's lines, of which the first has the number `at`. That of the next step's is then in `at`.
+    fn act_all(&mut self, lines: &[ScriptLine], at: &mut usize)
+        requires script { IsScriptFor (B.meaning.words self.old.shared.memory) lines.now }
+        requires first { IsFirstLineOf self.old.steps lines.now at.old }
+        ensures after { self.new ≡ lines_done B.flips (at_step self.old.steps lines.now) self.old }
+        ensures next { IsFirstLineOf (self.old.steps + 1) lines.now at.new }
+        ensures words { B.meaning.words self.new.shared.memory ≡ B.meaning.words self.old.shared.memory }
+        ensures steps { self.new.steps ≡ self.old.steps }
+    {
+        let n = self.steps;
+        let mut next = *at;
+        while next < lines.len() && lines[next].step == n {
+            self.act(lines[next].act);
+            next += 1;
+        }
+        *at = next;
+    }
 
     /// Makes the hart's step. The ending that it brings, where it brings one, is then in `ending`. Nothing is written there in
     /// a step that goes on, since an ending that isn't there would be copied in each step.
     fn step_hart(&mut self, input: &[u8], ending: &mut Option<Ending>)
         requires fits { self.old.steps + 1 < 2 ^ 64 }
         requires none { ending.old ≡ None }
-        ensures after { moved self.old (hart_step B.meaning G.logged input.now self.old) ≡ record { after = self.new; ending = ending.new } }
-        ensures steps { self.new.steps ≤ self.old.steps + 1 }
-        ensures completed { self.new.steps ≡ steps_completed ending.new self.old.steps }
-        ensures words { B.meaning.words self.new.protected.memory ≡ B.meaning.words self.old.protected.memory }
+        ensures after { self.new ≡ (hart_acted B.meaning input.now self.old).after }
+        ensures ending { ending.new ≡ step_ending (hart_acted B.meaning input.now self.old) }
+        ensures low { self.new.steps ≤ self.old.steps + 1 }
+        ensures completed { ending.new ≡ None → self.new.steps ≡ self.old.steps + 1 }
+        ensures words { B.meaning.words self.new.shared.memory ≡ B.meaning.words self.old.shared.memory }
     {
         let n = self.steps;
-        let pc = self.hart.pc();
-        let protected = &mut self.protected;
-        let answer = self.hart.step(
-            &mut protected.memory,
-            &mut protected.log,
+        // There is a hart, which its type knows.
+        let _some = self.shared.count();
+        let pc = self.shared.hart(ACTING).pc();
+        let answer = self.shared.step(
+            ACTING,
+            &mut self.log,
             n,
             input,
+            &mut self.place,
             &mut self.console,
         );
         match answer {
-            TurnEnd::Went => self.steps = n + 1,
+            TurnEnd::Went(_) => self.steps = n + 1,
             TurnEnd::Stop(stop) => {
                 let stopped = stopped(stop, n);
                 self.steps = stopped.steps;
@@ -59,50 +104,34 @@ impl<B: FlipBus, G: EventLog> MachineState<B, G> {
     }
 
     /// Makes a step. The ending that it brings, where it brings one, is then in `ending`. `at` is the number of this
-    /// step's first line, and becomes that of the next step's.
+    /// step's first line, and becomes that of the next step's where the run goes on.
     pub(crate) fn step(
         &mut self,
+        settings: &Settings,
         input: &[u8],
         lines: &[ScriptLine],
         at: &mut usize,
         ending: &mut Option<Ending>,
     )
-        requires fits { self.old.steps + 1 < 2 ^ 64 }
-        requires script { IsScriptFor (B.meaning.words self.old.protected.memory) lines.now }
+        requires budget { self.old.steps ≤ settings.now.budget }
+        requires script { IsScriptFor (B.meaning.words self.old.shared.memory) lines.now }
         requires first { IsFirstLineOf self.old.steps lines.now at.old }
         requires none { ending.old ≡ None }
-        ensures after { machine_move B.meaning B.flips G.logged input.now lines.now self.old ≡ record { after = self.new; ending = ending.new } }
-        ensures steps { self.new.steps ≤ self.old.steps + 1 }
-        ensures completed { self.new.steps ≡ steps_completed ending.new self.old.steps }
-        ensures first { IsFirstLineOf (self.old.steps + 1) lines.now at.new }
-        ensures words { B.meaning.words self.new.protected.memory ≡ B.meaning.words self.old.protected.memory }
+        ensures after { self.new ≡ (machine_step B.meaning B.flips settings.now input.now lines.now self.old).after }
+        ensures ending { ending.new ≡ step_ending (machine_step B.meaning B.flips settings.now input.now lines.now self.old) }
+        ensures low { self.new.steps ≤ settings.now.budget }
+        ensures completed { ending.new ≡ None → self.new.steps ≡ self.old.steps + 1 }
+        ensures first { ending.new ≡ None → IsFirstLineOf self.new.steps lines.now at.new }
+        ensures words { B.meaning.words self.new.shared.memory ≡ B.meaning.words self.old.shared.memory }
     {
-        *at = self.protected.act_all(self.steps, lines, *at);
-        self.step_hart(input, ending);
-    }
-
-    /// Makes steps up to an ending.
-    pub(crate) fn run(&mut self, budget: u64, input: &[u8], lines: &[ScriptLine]) -> Ending
-        requires budget { self.old.steps ≤ budget }
-        requires script { IsScriptFor (B.meaning.words self.old.protected.memory) lines.now }
-        ensures after { machine_run B.meaning B.flips G.logged input.now lines.now (budget - self.old.steps) self.old ≡ record { after = self.new; ending = result } }
-        ensures steps { self.new.steps ≤ budget }
-        ensures ended { result.steps ≤ budget }
-        ensures words { B.meaning.words self.new.protected.memory ≡ B.meaning.words self.old.protected.memory }
-    {
-        let mut at = first_line_of(lines, self.steps);
-        let from = self.steps;
-        let mut ended = None;
-        for _ in from..budget {
-            self.step(input, lines, &mut at, &mut ended);
-            match ended {
-                Some(ending) => return ending,
-                None => {}
-            }
-        }
-        Ending {
-            stop: Stop::Budget,
-            steps: self.steps,
+        if self.steps == settings.budget {
+            *ending = Some(Ending {
+                stop: Stop::Budget,
+                steps: self.steps,
+            });
+        } else {
+            self.act_all(lines, at);
+            self.step_hart(input, ending);
         }
     }
 }

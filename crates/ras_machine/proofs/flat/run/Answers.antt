@@ -18,4 +18,4 @@ returns-clause-run c =
     let e : c.loop-n.n ≡ c.args.budget = omega arith in
     c.loop-n.invariant
     ∙ run_over c.args.input.now (c.args.budget - c.loop-n.n) c.loop-n.n _ (omega arith)
-    ∙ ap (λ n. record { after = record { hart = c.loop-n.hart; ram = c.loop-n.memory; console = c.loop-n.console }; ending = record { stop = Budget; steps = n } }) e
+    ∙ ap (λ n. record { after = record { harts = c.loop-n.harts.harts; place = c.loop-n.place; ram = c.loop-n.harts.memory; console = c.loop-n.console }; ending = record { stop = Budget; steps = n } }) e

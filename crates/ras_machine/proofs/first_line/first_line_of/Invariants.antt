@@ -1,6 +1,6 @@
 use Rattle.std.proofs.Common.{ℕ, ◌-◌, ◌<◌, ◌≤◌, length, slice_index_or}
 use Rattle.fault_script.specs.declared.lines.ScriptLine.{ScriptLine}
-use Rattle.ras_machine.proofs.protected.first_line_of.Given as goal
+use Rattle.ras_machine.proofs.first_line.first_line_of.Given as goal
 
 -- the first line is neither before the one nor behind the other
 abbrev pub invariant-loop-low : goal.invariant-loop-low

@@ -1,6 +1,6 @@
 use Rattle.std.proofs.Common.{ℕ, ◌+◌, ◌-◌, ◌/◌, arith}
 use Rattle.ras_machine.proofs.FirstLines.{no_line, earlier_too, later_too}
-use Rattle.ras_machine.proofs.protected.first_line_of.Goals as goal
+use Rattle.ras_machine.proofs.first_line.first_line_of.Goals as goal
 
 pub loop-low-preserved-then-lines-middle : goal.loop-low-preserved-then-lines-middle
 loop-low-preserved-then-lines-middle c =
