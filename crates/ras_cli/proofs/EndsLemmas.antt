@@ -4,6 +4,7 @@ use Rattle.std.specs.Prelude.{◌⊎◌}
 use Rattle.ras_host.specs.Causes.{Rose}
 use Rattle.ras_host.specs.Told.{Bytes, Outside, HostAction, Read, Err, Performs}
 use Rattle.ras_host.specs.ToldLaws.{performs_append}
+use Rattle.ras_cli.specs.declared.status.Exit.TheVariants as exits
 use Rattle.ras_cli.specs.Plan.{line_written}
 use Rattle.ras_cli.specs.Follows.{AreReads, Follows, OnlyReads, WritesLine, RunEnds}
 use Rattle.ras_cli.proofs.FollowsLemmas.{not_four, reads_append}
@@ -27,7 +28,7 @@ rose_later first before now h (inl r) = inl (omega arith)
 rose_later first before now h (inr r) = inr r
 
 -- a line was written, or the host failed at it
-pub line_ends : (a b : Outside) (line : Bytes) (faults now code : ℕ) → Follows a b (line_written 2 line) code → (code ≡ 2) ⊎ (code ≡ 3) → faults ≤ now → (code ≡ 3 → Rose faults now) → RunEnds a b faults now code
+pub line_ends : (a b : Outside) (line : Bytes) (faults now code : ℕ) → Follows a b (line_written exits.Refused line) code → (code ≡ 2) ⊎ (code ≡ 3) → faults ≤ now → (code ≡ 3 → Rose faults now) → RunEnds a b faults now code
 line_ends a b line faults now code f either later cause = record {
   range = by_range either;
   words = by_words either;

@@ -1,15 +1,13 @@
 -- A plan is followed call by call.
-use Rattle.std.proofs.Common.{◌≡◌, ◌≢◌, ℕ, ◌≤◌, arith, Bool, true, false, Option, Some, None, length, List, [], ◌∷◌, ◌++◌, nat_eq, append-nil, append_assoc, refl, sym, ◌∙◌, ap, inl, inr, subst}
+use Rattle.std.proofs.Common.{◌≡◌, ◌≢◌, ℕ, arith, Bool, true, false, Option, Some, None, List, [], ◌∷◌, ◌++◌, nat_eq, append-nil, append_assoc, refl, sym, ◌∙◌, ap, inl, inr, subst}
 use Rattle.std.specs.Prelude.{IfSome, ◌⊎◌}
-use Rattle.std.proofs.lemmas.Bool.{le-ltb, lt-ltb}
 use Rattle.std.proofs.lemmas.Bool.Decides.{nat_tests}
-use Rattle.ras_host.specs.Reads.{Gets}
-use Rattle.ras_host.specs.declared.outside.Got.TheVariants.{Longer}
-use Rattle.ras_host.specs.Told.{Bytes, File, bytes_of, Outside, HostCall, host_call_of, calls_of, HostAction, Read, Create, MissCreate, Out, Err, Performs}
+use Rattle.ras_host.specs.Told.{Bytes, File, Outside, HostCall, host_call_of, calls_of, HostAction, Read, Create, MissCreate, Out, Err, Performs}
 use Rattle.ras_host.specs.ToldLaws.{performs_append, performs_then, calls_append}
-use Rattle.ras_words.specs.Run.{Run, run_of}
+use Rattle.ras_words.specs.Commands.{run_of}
 use Rattle.ras_cli.specs.Refusals.{usage}
-use Rattle.ras_cli.specs.Plan.{Plan, Finish, Reading, Planned, calls_then, carried_out, plan_of, planned_by, line_written}
+use Rattle.ras_cli.specs.declared.status.Exit.TheVariants as exits
+use Rattle.ras_cli.specs.Plan.{Planned, calls_then, planned_by, line_written}
 use Rattle.ras_cli.specs.Follows.{IsFailed, IsCut, AreReads, IsStopped, IsFront, MakesFront, Follows, WritesLine}
 
 abbrev planned : ℕ → List HostAction → Planned
@@ -82,27 +80,9 @@ pub not_four : (code n : ℕ) → (code ≡ n) ⊎ (code ≡ 3) → n ≢ 4 → 
 not_four code n (inl h) no4 e = no4 (sym h ∙ e)
 not_four code n (inr h) no4 e = three≢four 3 4 refl refl (sym h ∙ e)
 
--- a file that is too long
-pub longer_read : (files : Option (List File)) (name : Bytes) (limit : ℕ) (last : Planned) (a b c : Outside) (code : ℕ)
-    → IfSome files (λ fs. Gets (bytes_of fs name) limit Longer) → Performs a b (Read name limit ∷ [])
-    → Follows b c last code → IfSome files (λ fs. (whole : Bytes → Plan) → Follows a c (carried_out (Reading name limit (Finish last) whole) fs) code)
-longer_read None name limit last a b c code g h f = tt
-longer_read (Some fs) name limit last a b c code g h f = λ whole.
-    rw (lt-ltb limit (length (bytes_of fs name)) g) (follows_read a b c name limit last code h f)
-
--- a file within its limit leaves the rest of the plan
-pub within_limit : (files : List File) (name : Bytes) (limit : ℕ) (longer : Plan) (whole : Bytes → Plan) → length (bytes_of files name) ≤ limit
-    → calls_then (Read name limit ∷ []) (carried_out (whole (bytes_of files name)) files) ≡ carried_out (Reading name limit longer whole) files
-within_limit files name limit longer whole fits = rw (le-ltb limit (length (bytes_of files name)) fits) refl
-
--- a read that met want of memory
-pub unread : (files : Option (List File)) (name : Bytes) (limit : ℕ) (longer : Plan) (a b : Outside)
-    → Performs a b (Read name limit ∷ []) → IfSome files (λ fs. (whole : Bytes → Plan) → Follows a b (carried_out (Reading name limit longer whole) fs) 4)
-unread files name limit longer a b h = if_some_all files _ (λ fs whole. follows_read a b b name limit _ 4 h (follows_nothing b _))
-
 -- words that ask for nothing
 pub refused_words : (files : Option (List File)) (words : List Bytes) (a b : Outside) (code : ℕ) → run_of words ≡ None
-    → Follows a b (line_written 1 usage) code → IfSome files (λ fs. Follows a b (planned_by words fs) code)
+    → Follows a b (line_written exits.Usage usage) code → IfSome files (λ fs. Follows a b (planned_by words fs) code)
 refused_words None words a b code e h = tt
 refused_words (Some fs) words a b code e h = rw e h
 
@@ -150,12 +130,7 @@ pub all_make_front : (files : Option (List File)) (plan : List File → Planned)
 all_make_front None plan a b code f = tt
 all_make_front (Some fs) plan a b code f = makes_front a b (plan fs) code f
 
--- the calls of a run that words ask for
-pub words_front : (files : Option (List File)) (words : List Bytes) (run : Run) (a b : Outside) (code : ℕ) → run_of words ≡ Some run
-    → IfSome files (λ fs. Follows a b (carried_out (plan_of (Some run)) fs) code) → IfSome files (λ fs. MakesFront a b (planned_by words fs))
-words_front files words run a b code e f = rw e (all_make_front files (carried_out (plan_of (Some run))) a b code f)
-
 -- a line was written for refused words
-pub usage_line : (a b : Outside) (code : ℕ) → Follows a b (line_written 1 usage) code → (code ≡ 1) ⊎ (code ≡ 2) → WritesLine a b
+pub usage_line : (a b : Outside) (code : ℕ) → Follows a b (line_written exits.Usage usage) code → (code ≡ 1) ⊎ (code ≡ 2) → WritesLine a b
 usage_line a b code f (inl e) = ([], usage, tt, f.whole (λ x. omega (arith, x, e)) (λ x. omega (arith, x, e)))
 usage_line a b code f (inr e) = ([], usage, tt, f.whole (λ x. omega (arith, x, e)) (λ x. omega (arith, x, e)))

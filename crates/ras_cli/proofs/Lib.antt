@@ -4,3 +4,7 @@ pub mod EndsLemmas
 pub mod RunsLemmas
 pub mod AcceptedLemmas
 pub mod HeadlineLemmas
+pub mod TopLemmas
+pub mod Small
+pub mod PlanLemmas
+pub mod ReadsLemmas

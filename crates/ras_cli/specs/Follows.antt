@@ -2,6 +2,8 @@
 use Rattle.std.specs.Prelude.{◌≡◌, ◌≢◌, ℕ, ◌≤◌, List, [], ◌∷◌, ◌++◌, take, ◌⊎◌}
 use Rattle.ras_host.specs.Causes.{Rose}
 use Rattle.ras_host.specs.Told.{Bytes, Outside, Performs, HostCall, calls_of, HostAction, Read, Create, MissCreate, Out, Err}
+use Rattle.ras_cli.specs.declared.status.Exit.TheVariants.{Usage, Refused, HostFailed, NoMemory, StoppedAtError}
+use Rattle.ras_cli.specs.Status.{code_of}
 use Rattle.ras_cli.specs.Plan.{Planned}
 
 -- the action failed: it did a part of what it was to do
@@ -33,13 +35,14 @@ pub record IsStopped (actions done : List HostAction) : Type 0 where
   pub front : actions ≡ done ++ rest
   pub reads : AreReads done
 
--- What was done, by the status. With any but 3 and 4 it is the plan's, and the whole plan was done; with 3 the plan was
--- done up to a call that failed; with 4, want of memory, its first reads were made, or nothing, and nothing was written.
+-- What was done, by the status. It is the plan's, and the whole plan was done, unless a call of the host failed or memory
+-- wanted. Where a call failed the plan was done up to it; with want of memory its first reads were made, or nothing, and
+-- nothing was written.
 pub record Follows (before after : Outside) (plan : Planned) (code : ℕ) : Type 0 where
-  pub status : code ≢ 3 → code ≢ 4 → code ≡ plan.code
-  pub whole : code ≢ 3 → code ≢ 4 → Performs before after plan.actions
-  pub cut : code ≡ 3 → (done : List HostAction) × IsCut plan.actions done × Performs before after done
-  pub stopped : code ≡ 4 → (after ≡ before) ⊎ ((done : List HostAction) × IsStopped plan.actions done × Performs before after done)
+  pub status : code ≢ code_of HostFailed → code ≢ code_of NoMemory → code ≡ plan.code
+  pub whole : code ≢ code_of HostFailed → code ≢ code_of NoMemory → Performs before after plan.actions
+  pub cut : code ≡ code_of HostFailed → (done : List HostAction) × IsCut plan.actions done × Performs before after done
+  pub stopped : code ≡ code_of NoMemory → (after ≡ before) ⊎ ((done : List HostAction) × IsStopped plan.actions done × Performs before after done)
 
 -- the calls of some actions are the first of the plan's
 pub record IsFront (plan : Planned) (done : List HostAction) : Type 0 where
@@ -58,12 +61,12 @@ OnlyReads before after = (after ≡ before) ⊎ ((done : List HostAction) × Are
 abbrev pub WritesLine : Outside → Outside → Type 0
 WritesLine before after = (reads : List HostAction) × (line : Bytes) × AreReads reads × Performs before after (reads ++ Err line ∷ [])
 
--- How a run ends over any host that counts its faults, before and now: with 2 one line was written, with 4 nothing, and
--- with 3 a fault was counted.
+-- How a run ends over any host that counts its faults, before and now: where a file is refused one line was written, with
+-- want of memory nothing, and where a call of the host failed a fault was counted.
 pub record RunEnds (before after : Outside) (faults now code : ℕ) : Type 0 where
-  pub range : code ≤ 5
-  pub words : code ≢ 1
-  pub refused : code ≡ 2 → WritesLine before after
-  pub unwritten : code ≡ 4 → OnlyReads before after
+  pub range : code ≤ code_of StoppedAtError
+  pub words : code ≢ code_of Usage
+  pub refused : code ≡ code_of Refused → WritesLine before after
+  pub unwritten : code ≡ code_of NoMemory → OnlyReads before after
   pub later : faults ≤ now
-  pub cause : code ≡ 3 → Rose faults now
+  pub cause : code ≡ code_of HostFailed → Rose faults now

@@ -1,7 +1,9 @@
+pub mod Status
+pub mod Files
 pub mod Report
 pub mod Refusals
-pub mod Runs
 pub mod Plan
 pub mod Follows
+pub mod Reaches
 pub mod Accepted
 pub mod Headline

@@ -1,23 +1,30 @@
 -- What a call of the program is to do: the host calls that it makes, and its status.
-use Rattle.std.specs.Prelude.{ℕ, cond, nat_lt, List, [], ◌∷◌, ◌++◌, length, Option, Some, None, Result, Ok}
+use Rattle.std.specs.Prelude.{ℕ, Bool, cond, nat_lt, List, [], ◌∷◌, ◌++◌, length, Option, Some, None, Result, Ok}
 use Rattle.std.specs.Prelude.{Err as Error}
 use Rattle.elf_load.specs.Program.{Program, image_of}
 use Rattle.elf_load.specs.declared.refusals.ElfRefused.{ElfRefused}
-use Rattle.elf_load.specs.declared.refusals.ElfRefused.TheVariants as refused
 use Rattle.fault_script.specs.Script.{lines_in}
 use Rattle.fault_script.specs.declared.lines.ScriptLine.{ScriptLine}
 use Rattle.fault_script.specs.declared.lines.ScriptError.{ScriptError}
-use Rattle.fault_script.specs.declared.lines.ScriptError.TheVariants as errors
 use Rattle.ras_host.specs.Told.{Bytes, HostAction, Read, Out, Err, File, bytes_of}
+use Rattle.rv64_hart.specs.Harts.{hart_at}
+use Rattle.rv64_hart.specs.State.{ArchitecturalState}
+use Rattle.ras_machine.specs.Machine.{StackMachine, faulty_run, ending_in}
 use Rattle.ras_machine.specs.Settings.{ram_words}
 use Rattle.ras_machine.specs.declared.ending.Stop.{Stop}
 use Rattle.ras_machine.specs.declared.ending.Stop.TheVariants.{Shutdown, Reboot, Budget, ConsoleFull, Consumed}
+use Rattle.ras_machine.specs.declared.ending.Ending.{Ending}
 use Rattle.ras_machine.specs.declared.settings.Settings.{Settings}
-use Rattle.ras_words.specs.Run.{Run, run_of}
-use Rattle.ras_words.specs.declared.limits.TheConstants.{IMAGE_LIMIT, SCRIPT_LIMIT, INPUT_LIMIT}
-use Rattle.ras_cli.specs.Refusals.{usage, image_too_long, script_too_long, input_too_long, image_refused, script_refused}
+use Rattle.ras_words.specs.Commands.{run_of}
+use Rattle.ras_words.specs.Run.{Run}
+use Rattle.ras_cli.specs.declared.files.FileKind.{FileKind}
+use Rattle.ras_cli.specs.declared.files.FileKind.TheVariants as files
+use Rattle.ras_cli.specs.declared.status.Exit.{Exit}
+use Rattle.ras_cli.specs.declared.status.Exit.TheVariants as exits
+use Rattle.ras_cli.specs.Files.{limit_of}
+use Rattle.ras_cli.specs.Status.{code_of}
+use Rattle.ras_cli.specs.Refusals.{usage, too_long, image_refused, script_line}
 use Rattle.ras_cli.specs.Report.{report_of}
-use Rattle.ras_cli.specs.Runs.{FaultyRun, faulty_run}
 
 -- ---- plans
 
@@ -26,29 +33,46 @@ pub record Planned : Type 0 where
   pub code : ℕ
   pub actions : List HostAction
 
--- a plan: files that are read in turn, each within a limit, and then the status and the writes
-pub data Plan : Type 0 where
-  Finish : (writes : Planned) → Plan
-  Reading : (name : Bytes) → (limit : ℕ) → (longer : Plan) → (whole : Bytes → Plan) → Plan
+-- a plan: files that are read in turn, each within its limit, up to a value, or a line that refuses
+pub data Plan (X : Type 0) : Type 0 where
+  Done : X → Plan X
+  Refuse : (line : Bytes) → Plan X
+  Reading : (file : FileKind) → (name : Bytes) → (whole : Bytes → Plan X) → Plan X
+
+-- first one plan, then another with its value
+infixl 10 ◌>>=◌
+abbrev pub ◌>>=◌ : {X Y : Type 0} → Plan X → (X → Plan Y) → Plan Y
+(Done x) >>= next = next x
+(Refuse line) >>= next = Refuse line
+(Reading file name whole) >>= next = Reading file name (λ bytes. whole bytes >>= next)
 
 -- some calls, and then the rest
 abbrev pub calls_then : List HostAction → Planned → Planned
 calls_then actions rest = record { code = rest.code; actions = actions ++ rest.actions }
 
--- what a plan comes to over these files
-abbrev pub carried_out : Plan → List File → Planned
-carried_out (Finish writes) files = writes
-carried_out (Reading name limit longer whole) files = calls_then (Read name limit ∷ []) (cond (nat_lt limit (length (bytes_of files name)))
-    (carried_out longer files) (carried_out (whole (bytes_of files name)) files))
+-- a last line, after which the program ends
+abbrev pub line_written : Exit → Bytes → Planned
+line_written exit line = record { code = code_of exit; actions = Err line ∷ [] }
 
--- a last line, and the status that the program ends with
-abbrev pub line_written : ℕ → Bytes → Planned
-line_written code line = record { code = code; actions = Err line ∷ [] }
+-- a file is longer than its limit
+abbrev pub is_longer : List File → FileKind → Bytes → Bool
+is_longer files file name = nat_lt (limit_of file) (length (bytes_of files name))
+
+-- what a plan comes to over these files
+abbrev pub carried_out : Plan Planned → List File → Planned
+carried_out (Done planned) files = planned
+carried_out (Refuse line) files = line_written exits.Refused line
+carried_out (Reading file name whole) files = calls_then (Read name (limit_of file) ∷ []) (cond (is_longer files file name)
+    (line_written exits.Refused (too_long file)) (carried_out (whole (bytes_of files name)) files))
+
+-- a file
+abbrev pub file_plan : FileKind → Bytes → Plan Bytes
+file_plan file name = Reading file name (λ bytes. Done bytes)
 
 -- a file that an option names is read; without the option it is empty
-abbrev pub reading_named : Option Bytes → ℕ → Plan → (Bytes → Plan) → Plan
-reading_named None limit longer whole = whole []
-reading_named (Some name) limit longer whole = Reading name limit longer whole
+abbrev pub named_plan : FileKind → Option Bytes → Plan Bytes
+named_plan file None = Done []
+named_plan file (Some name) = file_plan file name
 
 -- ---- what a run asks for
 
@@ -62,53 +86,77 @@ run_ram_words run = ram_words (settings_of run)
 
 -- ---- what is read, in this order
 
--- an image that is accepted, or the line of its refusal; reading bytes never wants memory
-abbrev pub with_image : Result Program ElfRefused → (Program → Plan) → Plan
-with_image (Ok image) next = next image
-with_image (Error refused.NoMemory) next = Finish (record { code = 4; actions = [] })
-with_image (Error refusal) next = Finish (line_written 2 (image_refused refusal))
+-- an image that is accepted, or the line of its refusal
+abbrev pub accepted_image : Result Program ElfRefused → Plan Program
+accepted_image (Ok image) = Done image
+accepted_image (Error refusal) = Refuse (image_refused refusal)
 
--- the image is read, and then what follows it
-abbrev pub reading_image : Run → (Program → Plan) → Plan
-reading_image run next = Reading run.image IMAGE_LIMIT (Finish (line_written 2 image_too_long)) (λ bytes. with_image (image_of run.raw bytes (run_ram_words run)) next)
+-- the image that bytes are
+abbrev pub image_in : Run → Bytes → Plan Program
+image_in run bytes = accepted_image (image_of run.raw bytes (run_ram_words run))
 
--- the lines of a script that is accepted, or the line of its refusal; reading a text never wants memory
-abbrev pub with_lines : Result (List ScriptLine) ScriptError → (List ScriptLine → Plan) → Plan
-with_lines (Ok lines) next = next lines
-with_lines (Error (errors.Refused line why)) next = Finish (line_written 2 (script_refused line why))
-with_lines (Error errors.NoMemory) next = Finish (record { code = 4; actions = [] })
+-- the image of a run
+abbrev pub image_plan : Run → Plan Program
+image_plan run = file_plan files.Image run.image >>= image_in run
 
--- the script is read, where one is named, and then what follows its lines
-abbrev pub reading_script : Run → (List ScriptLine → Plan) → Plan
-reading_script run next = reading_named run.script SCRIPT_LIMIT (Finish (line_written 2 script_too_long)) (λ text. with_lines (lines_in (run_ram_words run) text) next)
+-- the lines of a script that is accepted, or the line of its refusal
+abbrev pub accepted_lines : Result (List ScriptLine) ScriptError → Plan (List ScriptLine)
+accepted_lines (Ok lines) = Done lines
+accepted_lines (Error refusal) = Refuse (script_line refusal)
 
--- the input is read, where one is named, and then what follows it
-abbrev pub reading_input : Run → (Bytes → Plan) → Plan
-reading_input run next = reading_named run.input INPUT_LIMIT (Finish (line_written 2 input_too_long)) next
+-- the lines that a text has
+abbrev pub lines_of : Run → Bytes → Plan (List ScriptLine)
+lines_of run text = accepted_lines (lines_in (run_ram_words run) text)
+
+-- the lines of a run's script
+abbrev pub script_plan : Run → Plan (List ScriptLine)
+script_plan run = named_plan files.Script run.script >>= lines_of run
+
+-- the input of a run
+abbrev pub input_plan : Run → Plan Bytes
+input_plan run = named_plan files.Input run.input
+
+-- what a run has read
+pub record RunInputs : Type 0 where
+  pub image : Program
+  pub lines : List ScriptLine
+  pub input : Bytes
+
+-- all that a run reads
+abbrev pub inputs_plan : Run → Plan RunInputs
+inputs_plan run = image_plan run >>= (λ image. script_plan run >>= (λ lines. input_plan run >>= (λ input.
+    Done (record { image = image; lines = lines; input = input }))))
 
 -- ---- what comes of it
 
--- the status of a run that stopped so: 5 where it met poison
+-- how the program ends where a run stopped so
+abbrev pub exit_of : Stop → Exit
+exit_of (Shutdown reason) = exits.Ended
+exit_of (Reboot reboot_kind) = exits.Ended
+exit_of Budget = exits.Ended
+exit_of ConsoleFull = exits.Ended
+exit_of (Consumed w use_kind pc) = exits.StoppedAtError
+
+-- its status
 abbrev pub status_of : Stop → ℕ
-status_of (Shutdown reason) = 0
-status_of (Reboot reboot_kind) = 0
-status_of Budget = 0
-status_of ConsoleFull = 0
-status_of (Consumed w use_kind pc) = 5
+status_of stop = code_of (exit_of stop)
 
--- the report of a run
-abbrev pub report_in : FaultyRun → Bytes
-report_in run = report_of run.ending run.after.protected.log run.after.protected.beyond run.after.hart
+-- what a run writes: the console to standard output, then the report to standard error
+abbrev pub outputs : Ending → ℕ → Option (ℕ × ℕ) → Bytes → ArchitecturalState → List HostAction
+outputs ending events beyond console hart = Out console ∷ Err (report_of ending events beyond hart) ∷ []
 
--- the console to standard output, then the report to standard error
-abbrev pub results_of : FaultyRun → Planned
-results_of run = record { code = status_of run.ending.stop; actions = Out run.after.console ∷ Err (report_in run) ∷ [] }
+-- the outputs and the status of a run
+abbrev pub results_of : StackMachine → Planned
+results_of m = record { code = status_of (ending_in m).stop; actions = outputs (ending_in m) m.state.log m.state.beyond m.state.console (hart_at m.state.shared.harts 0) }
+
+-- the results of a run of what was read
+abbrev pub results_plan : Run → RunInputs → Plan Planned
+results_plan run inputs = Done (results_of (faulty_run inputs.image (settings_of run) inputs.input inputs.lines))
 
 -- the plan of a run that the words ask for; where they ask for none, the usage line is written
-abbrev pub plan_of : Option Run → Plan
-plan_of None = Finish (line_written 1 usage)
-plan_of (Some run) = reading_image run (λ image. reading_script run (λ lines. reading_input run (λ input.
-    Finish (results_of (faulty_run image (settings_of run) input lines)))))
+abbrev pub plan_of : Option Run → Plan Planned
+plan_of None = Done (line_written exits.Usage usage)
+plan_of (Some run) = inputs_plan run >>= results_plan run
 
 -- the host calls and the status that these words ask for over these files
 abbrev pub planned_by : List Bytes → List File → Planned

@@ -4,29 +4,20 @@ use Rattle.std.specs.Fmt.{decimal}
 use Rattle.ras_host.specs.Told.{Bytes}
 use Rattle.elf_load.specs.declared.refusals.ElfRefused.{ElfRefused}
 use Rattle.elf_load.specs.declared.refusals.ElfRefused.TheVariants as refused
+use Rattle.fault_script.specs.declared.lines.ScriptError.{ScriptError}
+use Rattle.fault_script.specs.declared.lines.ScriptError.TheVariants as errors
 use Rattle.fault_script.specs.declared.lines.Why.{Why}
 use Rattle.fault_script.specs.declared.lines.Why.TheVariants as why
-use Rattle.ras_words.specs.declared.limits.TheConstants.{IMAGE_LIMIT, SCRIPT_LIMIT, INPUT_LIMIT}
+use Rattle.ras_cli.specs.declared.files.FileKind.{FileKind}
+use Rattle.ras_cli.specs.Files.{limit_of, word_of}
 
 -- words that ask for nothing
 abbrev pub usage : Bytes
 usage = codes "usage: ras run|compare IMAGE [options] | ras debug IMAGE COMMANDS [options] | ras read FILE | ras demo NUMBER\n"
 
 -- a file that is longer than its limit
-abbrev pub too_long : Bytes → ℕ → Bytes
-too_long what limit = codes "ras: " ++ what ++ codes " too long: limit " ++ decimal limit ++ codes "\n"
-
--- an image that is longer than its limit
-abbrev pub image_too_long : Bytes
-image_too_long = too_long (codes "image") IMAGE_LIMIT
-
--- a script that is longer than its limit
-abbrev pub script_too_long : Bytes
-script_too_long = too_long (codes "script") SCRIPT_LIMIT
-
--- an input that is longer than its limit
-abbrev pub input_too_long : Bytes
-input_too_long = too_long (codes "input") INPUT_LIMIT
+abbrev pub too_long : FileKind → Bytes
+too_long file = codes "ras: " ++ word_of file ++ codes " too long: limit " ++ decimal (limit_of file) ++ codes "\n"
 
 -- a rule of one program header, with its number
 abbrev pub segment_text : Bytes → ℕ → Bytes
@@ -69,3 +60,8 @@ why_text why.TooMany = codes "toomany"
 -- a script that is refused
 abbrev pub script_refused : ℕ → Why → Bytes
 script_refused line cause = codes "ras: script refused: line " ++ decimal line ++ codes ": " ++ why_text cause ++ codes "\n"
+
+-- the line for a script that wasn't read
+abbrev pub script_line : ScriptError → Bytes
+script_line (errors.Refused line cause) = script_refused line cause
+script_line errors.NoMemory = codes "ras: script refused: nomemory\n"

@@ -1,29 +1,25 @@
 //! What a run reads: its image, its script and its input.
 
-ghost use Rattle.std.specs.Prelude.{◌≡◌, ◌≤◌, ◌<◌, ◌^◌, List, Ok, Some, [], ◌∷◌, option_map, length, IfOk, IfErr, IfSome};
+ghost use Rattle.std.specs.Prelude.{◌≡◌, ◌≤◌, ◌<◌, ◌^◌, Ok, option_map, length, IfOk, IfErr};
 ghost use Rattle.std.specs.Prelude.{Result, Err as Error};
 ghost use Rattle.elf_load.specs.declared.refusals.ElfRefused.{ElfRefused};
 ghost use Rattle.elf_load.specs.Program.{Program, image_of, AnswersOrNoMemory};
 ghost use Rattle.fault_script.specs.Fits.{IsScriptFor};
-ghost use Rattle.fault_script.specs.Script.{lines_in};
-ghost use Rattle.fault_script.specs.Steps.{GivesScript};
-ghost use Rattle.fault_script.specs.declared.lines.ScriptLine.{ScriptLine};
-ghost use Rattle.ras_host.specs.Told.{Bytes, File, Performs};
-ghost use Rattle.ras_words.specs.Texts.{run_in, IsInLimits};
-ghost use Rattle.ras_words.specs.declared.limits.TheConstants.{SCRIPT_LIMIT};
-ghost use Rattle.ras_cli.specs.Refusals.{too_long};
-ghost use Rattle.ras_cli.specs.Plan.{Plan, Finish, carried_out, line_written, plan_of, reading_named, reading_image, reading_script, with_image, with_lines, run_ram_words};
-ghost use Rattle.ras_cli.specs.Accepted.{Does, IsWithin, IsImage, AreReadInputs, IsReadScript, named_read, image_read, reads_of};
-ghost use Rattle.ras_cli.specs.Follows.{Follows, RunEnds};
+ghost use Rattle.ras_words.specs.Read.{run_in, IsInLimits};
+ghost use Rattle.ras_cli.specs.Files.{limit_of};
+ghost use Rattle.ras_cli.specs.Plan.{accepted_image, run_ram_words, file_plan, named_plan, image_in, image_plan};
+ghost use Rattle.ras_cli.specs.Plan.{input_plan, inputs_plan, lines_of, script_plan};
+ghost use Rattle.ras_cli.specs.Reaches.{Reaches, ReachesInputs, ReachesScript, Stops};
 
+use crate::files::FileKind;
 use crate::refusals::{image_refused, script_refused, too_long};
 use crate::settings::run_ram_words;
-use crate::status::Status;
+use crate::status::{Exit, Status};
 use crate::writes::refuse;
 use elf_load::{ElfRefused, Image};
 use fault_script::{Script, ScriptError};
 use ras_host::{Got, Host, HostError};
-use ras_words::{IMAGE_LIMIT, INPUT_LIMIT, RunWords, SCRIPT_LIMIT};
+use ras_words::MachineWords;
 use std::alloc::Global;
 
 /// What a run has read.
@@ -34,60 +30,57 @@ pub struct Inputs {
     pub input: Vec<u8>,
 }
 
-// Reads a file, which is refused by a line where it is longer than the limit.
+// Reads a file, which is refused by a line where it is longer than its limit.
 fn read_file<H: Host>(
     alloc: Global,
+    file: FileKind,
     name: &str,
-    what: &[u8],
-    limit: u64,
     host: &mut H,
 ) -> Result<Vec<u8>, Status>
-    requires { length what.now ≤ 100 }
-    ensures bytes { IfOk result (λ bytes. IfSome (H.told host.old).files (λ files. IsWithin files (Some name.now) limit bytes.items)) }
-    ensures fits { IfOk result (λ bytes. length bytes.items ≤ limit) }
-    ensures reads { IfOk result (λ bytes. Does (H.told host.old) (H.told host.new) (named_read (Some name.now) limit)) }
-    ensures refusal { IfErr result (λ status. (2 ≤ status.code) × (status.code ≤ 4)) }
-    ensures ends { IfErr result (λ status. RunEnds (H.told host.old) (H.told host.new) (H.faults host.old) (H.faults host.new) status.code) }
-    ensures follows { IfErr result (λ status. IfSome (H.told host.old).files (λ files. (whole : Bytes → Plan) → Follows (H.told host.old) (H.told host.new)
-        (carried_out (reading_named (Some name.now) limit (Finish (line_written 2 (too_long what.now limit))) whole) files) status.code)) }
+    ensures reached { IfOk result (λ bytes.
+        Reaches (file_plan file name.now) (H.told host.old) (H.told host.new) bytes.items) }
+    ensures fits { IfOk result (λ bytes. length bytes.items ≤ limit_of file) }
+    ensures stopped { IfErr result (λ status.
+        Stops (file_plan file name.now) (H.told host.old) (H.told host.new)
+        (H.faults host.old) (H.faults host.new) status.code) }
     ensures later { H.faults host.old ≤ H.faults host.new }
 {
-    match host.read(alloc, name, limit) {
+    match host.read(alloc, name, file.limit()) {
         Ok(Got::Whole(bytes)) => Ok(bytes),
-        Ok(Got::Longer) => Err(refuse(host, too_long(what, limit).as_slice())),
-        Err(HostError::Failed) => Err(Status::FAILED),
-        Err(HostError::NoMemory) => Err(Status::NO_MEMORY),
+        Ok(Got::Longer) => Err(refuse(host, too_long(file).as_slice())),
+        Err(HostError::Failed) => Err(Exit::HostFailed.status()),
+        Err(HostError::NoMemory) => Err(Exit::NoMemory.status()),
     }
 }
 
 // Reads a file that an option names; without the option it is empty.
+#[tactic(auto, using(crate::proofs::ReadsLemmas::unnamed_read))]
 fn read_named<H: Host>(
     alloc: Global,
+    file: FileKind,
     name: Option<&str>,
-    what: &[u8],
-    limit: u64,
     host: &mut H,
 ) -> Result<Vec<u8>, Status>
-    requires { length what.now ≤ 100 }
-    ensures bytes { IfOk result (λ bytes. IfSome (H.told host.old).files (λ files. IsWithin files (option_map (λ n. n.now) name.entry) limit bytes.items)) }
-    ensures fits { IfOk result (λ bytes. length bytes.items ≤ limit) }
-    ensures reads { IfOk result (λ bytes. Does (H.told host.old) (H.told host.new) (named_read (option_map (λ n. n.now) name.entry) limit)) }
-    ensures refusal { IfErr result (λ status. (2 ≤ status.code) × (status.code ≤ 4)) }
-    ensures ends { IfErr result (λ status. RunEnds (H.told host.old) (H.told host.new) (H.faults host.old) (H.faults host.new) status.code) }
-    ensures follows { IfErr result (λ status. IfSome (H.told host.old).files (λ files. (whole : Bytes → Plan) → Follows (H.told host.old) (H.told host.new)
-        (carried_out (reading_named (option_map (λ n. n.now) name.entry) limit (Finish (line_written 2 (too_long what.now limit))) whole) files) status.code)) }
+    ensures reached { IfOk result (λ bytes.
+        Reaches (named_plan file (option_map (λ n. n.now) name.entry))
+        (H.told host.old) (H.told host.new) bytes.items) }
+    ensures fits { IfOk result (λ bytes. length bytes.items ≤ limit_of file) }
+    ensures stopped { IfErr result (λ status.
+        Stops (named_plan file (option_map (λ n. n.now) name.entry))
+        (H.told host.old) (H.told host.new) (H.faults host.old) (H.faults host.new) status.code) }
     ensures later { H.faults host.old ≤ H.faults host.new }
 {
     match name {
-        Some(name) => read_file(alloc, name, what, limit, host),
+        Some(name) => read_file(alloc, file, name, host),
         None => Ok(Vec::new(alloc)),
     }
 }
 
 // The image that bytes are.
-fn image_in(alloc: Global, run: RunWords<'_>, bytes: &[u8]) -> Result<Image, ElfRefused>
+fn image_in(alloc: Global, run: MachineWords<'_>, bytes: &[u8]) -> Result<Image, ElfRefused>
     requires { IsInLimits run }
-    ensures image { AnswersOrNoMemory (image_of run.entry.raw bytes.now (run_ram_words (run_in run.entry))) result }
+    ensures image { AnswersOrNoMemory
+        (image_of run.entry.raw bytes.now (run_ram_words (run_in run.entry))) result }
     ensures room { IfOk result (λ image. length image.words ≡ run_ram_words (run_in run.entry)) }
 {
     if run.raw {
@@ -99,14 +92,13 @@ fn image_in(alloc: Global, run: RunWords<'_>, bytes: &[u8]) -> Result<Image, Elf
 
 // Writes the line for an image that is refused.
 fn refuse_image<H: Host>(refusal: ElfRefused, host: &mut H) -> Status
-    ensures follows { (image : Result Program ElfRefused) → AnswersOrNoMemory image (Error refusal) → (next : Program → Plan) (files : List File)
-        → Follows (H.told host.old) (H.told host.new) (carried_out (with_image image next) files) result.code }
-    ensures refusal { (2 ≤ result.code) × (result.code ≤ 4) }
-    ensures ends { RunEnds (H.told host.old) (H.told host.new) (H.faults host.old) (H.faults host.new) result.code }
+    ensures stopped { (image : Result Program ElfRefused) → AnswersOrNoMemory image (Error refusal)
+        → Stops (accepted_image image) (H.told host.old) (H.told host.new)
+        (H.faults host.old) (H.faults host.new) result.code }
     ensures later { H.faults host.old ≤ H.faults host.new }
 {
     match refusal {
-        ElfRefused::NoMemory => Status::NO_MEMORY,
+        ElfRefused::NoMemory => Exit::NoMemory.status(),
         _ => refuse(host, image_refused(refusal).as_slice()),
     }
 }
@@ -114,18 +106,17 @@ fn refuse_image<H: Host>(refusal: ElfRefused, host: &mut H) -> Status
 // The image that bytes are, which is refused by a line.
 fn accept_image<H: Host>(
     alloc: Global,
-    run: RunWords<'_>,
+    run: MachineWords<'_>,
     bytes: &[u8],
     host: &mut H,
 ) -> Result<Image, Status>
     requires { IsInLimits run }
-    ensures image { IfOk result (λ image. image_of run.entry.raw bytes.now (run_ram_words (run_in run.entry)) ≡ Ok image) }
+    ensures reached { IfOk result (λ image.
+        Reaches (image_in (run_in run.entry) bytes.now) (H.told host.old) (H.told host.new) image) }
     ensures room { IfOk result (λ image. length image.words ≡ run_ram_words (run_in run.entry)) }
-    ensures unchanged { IfOk result (λ image. host.new ≡ host.old) }
-    ensures refusal { IfErr result (λ status. (2 ≤ status.code) × (status.code ≤ 4)) }
-    ensures ends { IfErr result (λ status. RunEnds (H.told host.old) (H.told host.new) (H.faults host.old) (H.faults host.new) status.code) }
-    ensures follows { IfErr result (λ status. (next : Program → Plan) (files : List File) → Follows (H.told host.old) (H.told host.new)
-        (carried_out (with_image (image_of run.entry.raw bytes.now (run_ram_words (run_in run.entry))) next) files) status.code) }
+    ensures stopped { IfErr result (λ status.
+        Stops (image_in (run_in run.entry) bytes.now) (H.told host.old) (H.told host.new)
+        (H.faults host.old) (H.faults host.new) status.code) }
     ensures later { H.faults host.old ≤ H.faults host.new }
 {
     match image_in(alloc, run, bytes) {
@@ -135,18 +126,17 @@ fn accept_image<H: Host>(
 }
 
 // Reads the image of a run.
-fn read_image<H: Host>(alloc: Global, run: RunWords<'_>, host: &mut H) -> Result<Image, Status>
+fn read_image<H: Host>(alloc: Global, run: MachineWords<'_>, host: &mut H) -> Result<Image, Status>
     requires { IsInLimits run }
-    ensures image { IfOk result (λ image. IfSome (H.told host.old).files (λ files. IsImage files (run_in run.entry) image)) }
+    ensures reached { IfOk result (λ image.
+        Reaches (image_plan (run_in run.entry)) (H.told host.old) (H.told host.new) image) }
     ensures room { IfOk result (λ image. length image.words ≡ run_ram_words (run_in run.entry)) }
-    ensures reads { IfOk result (λ image. Performs (H.told host.old) (H.told host.new) (image_read (run_in run.entry) ∷ [])) }
-    ensures refusal { IfErr result (λ status. (2 ≤ status.code) × (status.code ≤ 4)) }
-    ensures ends { IfErr result (λ status. RunEnds (H.told host.old) (H.told host.new) (H.faults host.old) (H.faults host.new) status.code) }
-    ensures follows { IfErr result (λ status. IfSome (H.told host.old).files (λ files. (next : Program → Plan) → Follows (H.told host.old) (H.told host.new)
-        (carried_out (reading_image (run_in run.entry) next) files) status.code)) }
+    ensures stopped { IfErr result (λ status.
+        Stops (image_plan (run_in run.entry)) (H.told host.old) (H.told host.new)
+        (H.faults host.old) (H.faults host.new) status.code) }
     ensures later { H.faults host.old ≤ H.faults host.new }
 {
-    match read_file(alloc, run.image, b"image", IMAGE_LIMIT, host) {
+    match read_file(alloc, FileKind::Image, run.image, host) {
         Ok(bytes) => accept_image(alloc, run, bytes.as_slice(), host),
         Err(status) => Err(status),
     }
@@ -155,24 +145,23 @@ fn read_image<H: Host>(alloc: Global, run: RunWords<'_>, host: &mut H) -> Result
 // The script that a text is, which is refused by a line.
 fn accept_script<H: Host>(
     alloc: Global,
-    run: RunWords<'_>,
+    run: MachineWords<'_>,
     text: &[u8],
     host: &mut H,
 ) -> Result<Script, Status>
     requires limits { IsInLimits run }
     requires text { length text.now < 2 ^ 32 }
-    ensures lines { IfOk result (λ script. GivesScript (Ok script) (lines_in (run_ram_words (run_in run.entry)) text.now)) }
+    ensures reached { IfOk result (λ script.
+        ReachesScript (lines_of (run_in run.entry) text.now) (H.told host.old) (H.told host.new) script) }
     ensures script { IfOk result (IsScriptFor (run_ram_words (run_in run.entry))) }
-    ensures unchanged { IfOk result (λ script. host.new ≡ host.old) }
-    ensures refusal { IfErr result (λ status. (2 ≤ status.code) × (status.code ≤ 4)) }
-    ensures ends { IfErr result (λ status. RunEnds (H.told host.old) (H.told host.new) (H.faults host.old) (H.faults host.new) status.code) }
-    ensures follows { IfErr result (λ status. (next : List ScriptLine → Plan) (files : List File) → Follows (H.told host.old) (H.told host.new)
-        (carried_out (with_lines (lines_in (run_ram_words (run_in run.entry)) text.now) next) files) status.code) }
+    ensures stopped { IfErr result (λ status.
+        Stops (lines_of (run_in run.entry) text.now) (H.told host.old) (H.told host.new)
+        (H.faults host.old) (H.faults host.new) status.code) }
     ensures later { H.faults host.old ≤ H.faults host.new }
 {
     match Script::read(alloc, text, run_ram_words(run)) {
         Ok(script) => Ok(script),
-        Err(ScriptError::NoMemory) => Err(Status::NO_MEMORY),
+        Err(ScriptError::NoMemory) => Err(Exit::NoMemory.status()),
         Err(ScriptError::Refused { line, why }) => {
             Err(refuse(host, script_refused(line, why).as_slice()))
         }
@@ -180,18 +169,21 @@ fn accept_script<H: Host>(
 }
 
 // Reads the script of a run.
-fn read_script<H: Host>(alloc: Global, run: RunWords<'_>, host: &mut H) -> Result<Script, Status>
+fn read_script<H: Host>(
+    alloc: Global,
+    run: MachineWords<'_>,
+    host: &mut H,
+) -> Result<Script, Status>
     requires { IsInLimits run }
-    ensures lines { IfOk result (λ script. IfSome (H.told host.old).files (λ files. IsReadScript files (run_in run.entry) script)) }
+    ensures reached { IfOk result (λ script.
+        ReachesScript (script_plan (run_in run.entry)) (H.told host.old) (H.told host.new) script) }
     ensures script { IfOk result (IsScriptFor (run_ram_words (run_in run.entry))) }
-    ensures reads { IfOk result (λ script. Does (H.told host.old) (H.told host.new) (named_read (run_in run.entry).script SCRIPT_LIMIT)) }
-    ensures refusal { IfErr result (λ status. (2 ≤ status.code) × (status.code ≤ 4)) }
-    ensures ends { IfErr result (λ status. RunEnds (H.told host.old) (H.told host.new) (H.faults host.old) (H.faults host.new) status.code) }
-    ensures follows { IfErr result (λ status. IfSome (H.told host.old).files (λ files. (next : List ScriptLine → Plan) → Follows (H.told host.old) (H.told host.new)
-        (carried_out (reading_script (run_in run.entry) next) files) status.code)) }
+    ensures stopped { IfErr result (λ status.
+        Stops (script_plan (run_in run.entry)) (H.told host.old) (H.told host.new)
+        (H.faults host.old) (H.faults host.new) status.code) }
     ensures later { H.faults host.old ≤ H.faults host.new }
 {
-    match read_named(alloc, run.script, b"script", SCRIPT_LIMIT, host) {
+    match read_named(alloc, FileKind::Script, run.script, host) {
         Ok(text) => accept_script(alloc, run, text.as_slice(), host),
         Err(status) => Err(status),
     }
@@ -201,23 +193,25 @@ fn read_script<H: Host>(alloc: Global, run: RunWords<'_>, host: &mut H) -> Resul
 /// refused, has its line written, and the run ends with the status that is answered.
 pub fn read_inputs<H: Host>(
     alloc: Global,
-    run: RunWords<'_>,
+    run: MachineWords<'_>,
     host: &mut H,
 ) -> Result<Inputs, Status>
     requires { IsInLimits run }
-    ensures accepted { IfOk result (λ inputs. IfSome (H.told host.old).files (λ files. AreReadInputs files (run_in run.entry) inputs.image inputs.script inputs.input.items)) }
-    ensures room { IfOk result (λ inputs. length inputs.image.words ≡ run_ram_words (run_in run.entry)) }
-    ensures script { IfOk result (λ inputs. IsScriptFor (run_ram_words (run_in run.entry)) inputs.script) }
-    ensures reads { IfOk result (λ inputs. Performs (H.told host.old) (H.told host.new) (reads_of (run_in run.entry))) }
-    ensures refusal { IfErr result (λ status. (2 ≤ status.code) × (status.code ≤ 4)) }
-    ensures ends { IfErr result (λ status. RunEnds (H.told host.old) (H.told host.new) (H.faults host.old) (H.faults host.new) status.code) }
-    ensures follows { IfErr result (λ status. IfSome (H.told host.old).files (λ files. Follows (H.told host.old) (H.told host.new)
-        (carried_out (plan_of (Some (run_in run.entry))) files) status.code)) }
+    ensures reached { IfOk result (λ inputs.
+        ReachesInputs (inputs_plan (run_in run.entry)) (H.told host.old) (H.told host.new)
+        inputs.image inputs.script inputs.input.items) }
+    ensures room { IfOk result (λ inputs.
+        length inputs.image.words ≡ run_ram_words (run_in run.entry)) }
+    ensures script { IfOk result (λ inputs.
+        IsScriptFor (run_ram_words (run_in run.entry)) inputs.script) }
+    ensures stopped { IfErr result (λ status.
+        Stops (inputs_plan (run_in run.entry)) (H.told host.old) (H.told host.new)
+        (H.faults host.old) (H.faults host.new) status.code) }
     ensures later { H.faults host.old ≤ H.faults host.new }
 {
     let image = read_image(alloc, run, host)?;
     let script = read_script(alloc, run, host)?;
-    let input = read_named(alloc, run.input, b"input", INPUT_LIMIT, host)?;
+    let input = read_named(alloc, FileKind::Input, run.input, host)?;
     Ok(Inputs {
         image,
         script,

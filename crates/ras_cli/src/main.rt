@@ -5,6 +5,7 @@
 
 #[cfg(test)]
 mod file_tests;
+mod files;
 #[cfg(test)]
 mod guest_tests;
 #[cfg(test)]
@@ -21,22 +22,28 @@ mod text;
 mod top;
 mod writes;
 
+use crate::status::Exit;
 use crate::top::ras_main;
 use ras_host::RealHost;
 use std::env;
 use std::io::ErrorKind;
 use std::process::ExitCode;
 
+// The exit of a program that ends before its words are known.
+fn ended(exit: Exit) -> ExitCode {
+    ExitCode::from(exit.status().code)
+}
+
 fn main(rt: HostRuntime) -> ExitCode {
     let alloc = rt.alloc();
     let args = match env::args(&rt) {
         Ok(args) => args,
-        Err(error) if error.kind() == ErrorKind::OutOfMemory => return ExitCode::from(4),
-        Err(_) => return ExitCode::from(3),
+        Err(error) if error.kind() == ErrorKind::OutOfMemory => return ended(Exit::NoMemory),
+        Err(_) => return ended(Exit::HostFailed),
     };
     let words: Vec<String> = match args.skip(1).collect(alloc) {
         Ok(words) => words,
-        Err(_) => return ExitCode::from(4),
+        Err(_) => return ended(Exit::NoMemory),
     };
     let mut host = RealHost::make(rt);
     let status = ras_main(alloc, words.as_slice(), &mut host);

@@ -5,6 +5,7 @@ ghost use Rattle.arrayvec.specs.ArrayVec.{array_vec_len};
 ghost use Rattle.ras_cli.specs.declared.text.TheConstants.{TEXT_ROOM};
 ghost use Rattle.ras_cli.specs.Refusals.{too_long, segment_text, rule_text, image_refused, why_text, script_refused};
 
+use crate::files::FileKind;
 use crate::text::{Text, push_number, push_text};
 use elf_load::ElfRefused;
 use fault_script::Why;
@@ -13,16 +14,15 @@ use fault_script::Why;
 pub const USAGE: &[u8] =
     b"usage: ras run|compare IMAGE [options] | ras debug IMAGE COMMANDS [options] | ras read FILE | ras demo NUMBER\n";
 
-/// The line for a file that is longer than its limit, with what it is.
-pub fn too_long(what: &[u8], limit: u64) -> Text
-    requires { length what.now ≤ 100 }
-    ensures { result.items ≡ too_long what.now limit }
+/// The line for a file that is longer than its limit.
+pub fn too_long(file: FileKind) -> Text
+    ensures { result.items ≡ too_long file }
 {
     let mut text = Text::new();
     push_text(&mut text, b"ras: ");
-    push_text(&mut text, what);
+    push_text(&mut text, file.word());
     push_text(&mut text, b" too long: limit ");
-    push_number(&mut text, limit);
+    push_number(&mut text, file.limit());
     push_text(&mut text, b"\n");
     text
 }

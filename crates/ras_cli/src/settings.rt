@@ -2,15 +2,15 @@
 
 ghost use Rattle.std.specs.Prelude.{◌≡◌, ◌≤◌};
 ghost use Rattle.ras_machine.specs.Settings.{IsInRange};
-ghost use Rattle.ras_words.specs.Texts.{run_in, IsInLimits};
+ghost use Rattle.ras_words.specs.Read.{run_in, IsInLimits};
 ghost use Rattle.ras_cli.specs.Plan.{settings_of, run_ram_words};
 
 use ras_bits::WORDS_PER_MIB;
 use ras_machine::Settings;
-use ras_words::RunWords;
+use ras_words::MachineWords;
 
 /// The settings that a run asks for.
-pub fn settings_of(run: RunWords<'_>) -> Settings
+pub fn settings_of(run: MachineWords<'_>) -> Settings
     requires { IsInLimits run }
     ensures settings { result ≡ settings_of (run_in run.entry) }
     ensures range { IsInRange result }
@@ -24,7 +24,7 @@ pub fn settings_of(run: RunWords<'_>) -> Settings
 }
 
 /// How many words of 8 bytes the RAM of a run has.
-pub fn run_ram_words(run: RunWords<'_>) -> u32
+pub fn run_ram_words(run: MachineWords<'_>) -> u32
     requires { IsInLimits run }
     ensures { result ≡ run_ram_words (run_in run.entry) }
 {

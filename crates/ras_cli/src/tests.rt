@@ -1,10 +1,10 @@
 //! The top call over a host in memory, with bytes worked out by hand.
 
+use crate::files::FileKind;
 use crate::helpers::{called, host_of, image_of};
 use crate::refusals::too_long;
 use ras_bits::NoMemory;
 use ras_host::{MemoryHost, SteadyHost};
-use ras_words::{IMAGE_LIMIT, INPUT_LIMIT, SCRIPT_LIMIT};
 use std::alloc::Global;
 use std::test::Fail;
 
@@ -250,27 +250,11 @@ fn refuses_long_files(rt: HostRuntime) -> Result<(), Fail> {
 
 #[test]
 fn names_the_limits_of_files(rt: HostRuntime) {
-    for (what, limit, line) in [
-        (
-            "image",
-            IMAGE_LIMIT,
-            "ras: image too long: limit 83886080\n",
-        ),
-        (
-            "script",
-            SCRIPT_LIMIT,
-            "ras: script too long: limit 4194304\n",
-        ),
-        (
-            "input",
-            INPUT_LIMIT,
-            "ras: input too long: limit 16777216\n",
-        ),
+    for (file, line) in [
+        (FileKind::Image, "ras: image too long: limit 83886080\n"),
+        (FileKind::Script, "ras: script too long: limit 4194304\n"),
+        (FileKind::Input, "ras: input too long: limit 16777216\n"),
     ] {
-        assert!(rt; what.len() <= 100);
-        assert!(rt;
-            too_long(what.as_bytes(), limit).as_slice() == line.as_bytes(),
-            "{line}"
-        );
+        assert!(rt; too_long(file).as_slice() == line.as_bytes(), "{line}");
     }
 }

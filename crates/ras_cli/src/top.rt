@@ -6,12 +6,16 @@ ghost use Rattle.fault_script.specs.Steps.{InRisingSteps};
 ghost use Rattle.fault_script.specs.declared.lines.ScriptLine.{ScriptLine};
 ghost use Rattle.ras_host.specs.Causes.{Rose};
 ghost use Rattle.ras_host.specs.Told.{Performs, Err};
+ghost use Rattle.ras_machine.specs.Flat.{flat_made};
+ghost use Rattle.ras_machine.specs.Machine.{faulty_run, ending_in};
 ghost use Rattle.ras_machine.specs.Settings.{IsInRange, ram_words};
-ghost use Rattle.ras_words.specs.Run.{run_of};
-ghost use Rattle.ras_words.specs.Texts.{texts_of, run_in, IsInLimits};
+ghost use Rattle.ras_machine.specs.Ways.{EndsBy, KeepsToFlat};
+ghost use Rattle.ras_words.specs.Commands.{run_of};
+ghost use Rattle.ras_words.specs.Read.{texts_of, run_in, IsInLimits};
+ghost use Rattle.ras_cli.specs.declared.status.Exit.TheVariants.{Usage, Refused, HostFailed, NoMemory, StoppedAtError};
+ghost use Rattle.ras_cli.specs.Status.{code_of};
 ghost use Rattle.ras_cli.specs.Refusals.{usage};
 ghost use Rattle.ras_cli.specs.Plan.{carried_out, plan_of, planned_by, results_of};
-ghost use Rattle.ras_cli.specs.Runs.{faulty_run, KeepsToFlatRun};
 ghost use Rattle.ras_cli.specs.Follows.{Follows, MakesFront, OnlyReads, WritesLine, RunEnds};
 ghost use Rattle.ras_cli.specs.Headline.{Completes, Headline};
 
@@ -19,11 +23,11 @@ use crate::inputs::{Inputs, read_inputs};
 use crate::machine::run_machine;
 use crate::refusals::USAGE;
 use crate::settings::settings_of;
-use crate::status::Status;
+use crate::status::{Exit, Status};
 use crate::writes::{write_last, write_results};
 use ras_host::Host;
 use ras_machine::Settings;
-use ras_words::{RunWords, WordsError, read_words};
+use ras_words::{Command, MachineWords, WordsError, read_words};
 use std::alloc::Global;
 
 // Runs what was read, and writes what comes of it.
@@ -33,23 +37,25 @@ fn run_inputs<H: Host>(alloc: Global, inputs: &Inputs, settings: &Settings, host
     requires script { IsScriptFor (ram_words settings.now) inputs.now.script }
     ensures follows { (lines : List ScriptLine) → InRisingSteps lines inputs.now.script
         → Follows (H.told host.old) (H.told host.new) (results_of (faulty_run inputs.now.image settings.now inputs.now.input.items lines)) result.code }
-    ensures keeps { (lines : List ScriptLine) → InRisingSteps lines inputs.now.script → result.code ≢ 4
-        → KeepsToFlatRun inputs.now.image settings.now inputs.now.input.items lines }
+    ensures keeps { (lines : List ScriptLine) → InRisingSteps lines inputs.now.script → result.code ≢ code_of NoMemory
+        → let faulty = faulty_run inputs.now.image settings.now inputs.now.input.items lines in
+        KeepsToFlat faulty.state.beyond lines
+        (EndsBy inputs.now.input.items (flat_made inputs.now.image settings.now.budget) lines (ending_in faulty) faulty.state) }
     ensures ends { RunEnds (H.told host.old) (H.told host.new) (H.faults host.old) (H.faults host.new) result.code }
 {
     match run_machine(alloc, inputs, settings) {
         Ok(results) => write_results(
             host,
-            results.code,
+            results.exit,
             results.machine.console(),
             results.report.as_slice(),
         ),
-        Err(_) => Status::NO_MEMORY,
+        Err(_) => Exit::NoMemory.status(),
     }
 }
 
 // Reads what a run needs, runs it, and writes what comes of it.
-fn run_command<H: Host>(alloc: Global, run: RunWords<'_>, host: &mut H) -> Status
+fn run_command<H: Host>(alloc: Global, run: MachineWords<'_>, host: &mut H) -> Status
     requires { IsInLimits run }
     ensures follows { IfSome (H.told host.old).files (λ files. Follows (H.told host.old) (H.told host.new)
         (carried_out (plan_of (Some (run_in run.entry))) files) result.code) }
@@ -80,11 +86,12 @@ fn run_command<H: Host>(alloc: Global, run: RunWords<'_>, host: &mut H) -> Statu
 ///
 /// The limits of files are those of `ras_words`: `IMAGE_LIMIT`, `SCRIPT_LIMIT` and `INPUT_LIMIT` bytes.
 pub fn ras_main<H: Host>(alloc: Global, words: &[String], host: &mut H) -> Status
-    ensures codes { result.code ≤ 5 }
+    ensures codes { result.code ≤ code_of StoppedAtError }
 
-    // Status 1 comes exactly where the words ask for no run and the usage line was written.
-    ensures usage { result.code ≡ 1 → (run_of (texts_of words.now) ≡ None) × Performs (H.told host.old) (H.told host.new) (Err usage ∷ []) }
-    ensures refused { run_of (texts_of words.now) ≡ None → (result.code ≡ 1) ⊎ ((result.code ≡ 3) ⊎ (result.code ≡ 4)) }
+    // The status of refused words comes exactly where they ask for no run and the usage line was written.
+    ensures usage { result.code ≡ code_of Usage → (run_of (texts_of words.now) ≡ None) × Performs (H.told host.old) (H.told host.new) (Err usage ∷ []) }
+    ensures refused { run_of (texts_of words.now) ≡ None → (result.code ≡ code_of Usage)
+        ⊎ ((result.code ≡ code_of HostFailed) ⊎ (result.code ≡ code_of NoMemory)) }
 
     // Over a host that tells its files: the status and all that is written, by the plan; and the calls that are made.
     ensures follows { IfSome (H.told host.old).files (λ files. Follows (H.told host.old) (H.told host.new) (planned_by (texts_of words.now) files) result.code) }
@@ -98,19 +105,19 @@ pub fn ras_main<H: Host>(alloc: Global, words: &[String], host: &mut H) -> Statu
     ensures headline { IfSome (H.told host.old).files (λ files. IfSome (run_of (texts_of words.now))
         (λ run. Headline files run (H.told host.old) (H.told host.new) result.code)) }
 
-    // Status 1 and 2: one line was written, to standard error.
-    ensures line { (result.code ≡ 1) ⊎ (result.code ≡ 2) → WritesLine (H.told host.old) (H.told host.new) }
+    // Refused words or a refused file: one line was written, to standard error.
+    ensures line { (result.code ≡ code_of Usage) ⊎ (result.code ≡ code_of Refused) → WritesLine (H.told host.old) (H.told host.new) }
 
-    // Status 4: nothing was written.
-    ensures unwritten { result.code ≡ 4 → OnlyReads (H.told host.old) (H.told host.new) }
+    // Want of memory: nothing was written.
+    ensures unwritten { result.code ≡ code_of NoMemory → OnlyReads (H.told host.old) (H.told host.new) }
 
-    // Status 3 comes only where a fault of the host was counted.
+    // The status of a failed call of the host comes only where a fault of it was counted.
     ensures later { H.faults host.old ≤ H.faults host.new }
-    ensures cause { result.code ≡ 3 → Rose (H.faults host.old) (H.faults host.new) }
+    ensures cause { result.code ≡ code_of HostFailed → Rose (H.faults host.old) (H.faults host.new) }
 {
     match read_words(alloc, words) {
-        Ok(run) => run_command(alloc, run, host),
-        Err(WordsError::Refused) => write_last(host, 1, USAGE),
-        Err(WordsError::NoMemory) => Status::NO_MEMORY,
+        Ok(Command::Run(run)) => run_command(alloc, run, host),
+        Err(WordsError::Refused) => write_last(host, Exit::Usage, USAGE),
+        Err(WordsError::NoMemory) => Exit::NoMemory.status(),
     }
 }

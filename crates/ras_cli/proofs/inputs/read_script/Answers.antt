@@ -1,19 +1,23 @@
-use Rattle.fault_script.specs.Script.{lines_in}
-use Rattle.ras_words.specs.Texts.{run_in}
-use Rattle.ras_words.specs.declared.limits.TheConstants.{SCRIPT_LIMIT}
-use Rattle.ras_cli.specs.Plan.{Finish, line_written, with_lines, run_ram_words}
-use Rattle.ras_cli.specs.Refusals.{script_too_long}
-use Rattle.ras_cli.proofs.AcceptedLemmas.{errors_end, errors_follow, read_refused}
+use Rattle.std.proofs.lemmas.Result.{IfOk-weaker, IfErr-weaker}
+use Rattle.ras_words.specs.Read.{run_in}
+use Rattle.ras_cli.specs.declared.files.FileKind.TheVariants.{Script}
+use Rattle.ras_cli.specs.Plan.{named_plan, lines_of}
+use Rattle.ras_cli.proofs.PlanLemmas.{reached_bind, follows_bind, refused_bind}
 use Rattle.ras_cli.proofs.inputs.read_script.Goals as goal
 
-pub returns-in-Ok-clause-ends : goal.returns-in-Ok-clause-ends
-returns-in-Ok-clause-ends g c = errors_end _ _ _ (run_in c.args.run).script SCRIPT_LIMIT _ _ _ c.accept_script.result c.in-Ok.ensures.reads c.read_named.ensures.later c.accept_script.ensures.ends
+pub returns-in-Ok-clause-reached : goal.returns-in-Ok-clause-reached
+returns-in-Ok-clause-reached g c =
+    IfOk-weaker c.accept_script.result _ _ (λ script h. record {
+      lines = h.lines;
+      rising = h.rising;
+      reached = reached_bind (named_plan Script (run_in c.args.run).script) (lines_of (run_in c.args.run)) _ _ _ _ _ c.in-Ok.ensures.reached h.reached;
+    })
+    (rw c.as_slice.ensures.value at c.accept_script.ensures.reached)
 
-pub returns-in-Ok-clause-follows : goal.returns-in-Ok-clause-follows
-returns-in-Ok-clause-follows g c =
-    errors_follow _ _ _ _ (run_in c.args.run).script SCRIPT_LIMIT (Finish (line_written 2 script_too_long)) (λ text next. with_lines (lines_in (run_ram_words (run_in c.args.run)) text) next) c.in-Ok.text.items
-    c.accept_script.result c.in-Ok.ensures.bytes c.in-Ok.ensures.reads (rw c.as_slice.ensures.value at c.accept_script.ensures.follows)
+pub returns-in-Ok-clause-stopped : goal.returns-in-Ok-clause-stopped
+returns-in-Ok-clause-stopped g c =
+    IfErr-weaker c.accept_script.result _ _ (λ status h. follows_bind (named_plan Script (run_in c.args.run).script) (lines_of (run_in c.args.run)) _ _ _ _ _ _ _ _ c.in-Ok.ensures.reached c.read_named.ensures.later h)
+    (rw c.as_slice.ensures.value at c.accept_script.ensures.stopped)
 
-pub returns-in-Err-clause-follows : goal.returns-in-Err-clause-follows
-returns-in-Err-clause-follows g c =
-    read_refused _ _ _ (run_in c.args.run).script SCRIPT_LIMIT (Finish (line_written 2 script_too_long)) (λ text next. with_lines (lines_in (run_ram_words (run_in c.args.run)) text) next) _ c.in-Err.ensures.follows
+pub returns-in-Err-clause-stopped : goal.returns-in-Err-clause-stopped
+returns-in-Err-clause-stopped g c = refused_bind (named_plan Script (run_in c.args.run).script) (lines_of (run_in c.args.run)) _ _ _ _ _ c.in-Err.ensures.stopped

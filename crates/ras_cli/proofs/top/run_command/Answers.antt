@@ -1,31 +1,47 @@
-use Rattle.ras_words.specs.Texts.{run_in}
-use Rattle.ras_cli.specs.Accepted.{reads_of}
-use Rattle.ras_cli.proofs.AcceptedLemmas.{all_are_reads}
-use Rattle.ras_cli.proofs.EndsLemmas.{reads_end}
-use Rattle.ras_cli.proofs.HeadlineLemmas.{run_follows, run_headline, refused_headline, all_complete}
+use Rattle.std.proofs.Common.{subst}
+use Rattle.ras_machine.specs.declared.settings.Settings.{Settings}
+use Rattle.ras_words.specs.Read.{run_in}
+use Rattle.ras_cli.specs.Follows.{Follows}
+use Rattle.ras_cli.specs.Plan.{inputs_plan, results_plan, results_of}
+use Rattle.ras_machine.specs.Machine.{faulty_run}
+use Rattle.ras_cli.proofs.AcceptedLemmas.{are_read, refusal_low, refusal_high}
+use Rattle.ras_cli.proofs.FollowsLemmas.{if_some_all}
+use Rattle.ras_cli.proofs.PlanLemmas.{follows_value, stops_follow, made_ends}
+use Rattle.ras_cli.proofs.HeadlineLemmas.{run_headline, refused_headline, all_complete}
 use Rattle.ras_cli.proofs.top.run_command.Goals as goal
 
 pub returns-in-Ok-clause-follows : goal.returns-in-Ok-clause-follows
 returns-in-Ok-clause-follows g c =
-    run_follows _ (run_in c.args.run) c.settings_of.result _ _ _ _ _ _ _ c.settings_of.ensures.settings c.in-Ok.ensures.accepted c.in-Ok.ensures.reads c.run_inputs.ensures.follows
+    let run = run_in c.args.run in
+    let k = c.in-Ok.ensures.reached in
+    let results = λ (s : Settings). Follows (g.H.Host.told c.read_inputs.new.host) (g.H.Host.told c.run_inputs.new.host)
+    (results_of (faulty_run c.in-Ok.inputs.image s c.in-Ok.inputs.input.items k.lines)) c.run_inputs.result.code in
+    follows_value (inputs_plan run) (results_plan run) _ _ _ _ _ k.reached
+    (if_some_all _ _ (λ files. subst results c.settings_of.ensures.settings (c.run_inputs.ensures.follows k.lines k.rising)))
 
 pub returns-in-Ok-clause-completes : goal.returns-in-Ok-clause-completes
-returns-in-Ok-clause-completes g c =
-    all_complete _ (run_in c.args.run) _ _ _
-    (run_follows _ (run_in c.args.run) c.settings_of.result _ _ _ _ _ _ _ c.settings_of.ensures.settings c.in-Ok.ensures.accepted c.in-Ok.ensures.reads c.run_inputs.ensures.follows)
+returns-in-Ok-clause-completes g c = all_complete _ (run_in c.args.run) _ _ _ (returns-in-Ok-clause-follows g c)
 
 pub returns-in-Ok-clause-headline : goal.returns-in-Ok-clause-headline
 returns-in-Ok-clause-headline g c =
-    run_headline _ (run_in c.args.run) c.settings_of.result _ _ _ _ _ _ c.settings_of.ensures.settings c.in-Ok.ensures.accepted
-    (run_follows _ (run_in c.args.run) c.settings_of.result _ _ _ _ _ _ _ c.settings_of.ensures.settings c.in-Ok.ensures.accepted c.in-Ok.ensures.reads c.run_inputs.ensures.follows)
-    c.run_inputs.ensures.keeps
+    let run = run_in c.args.run in
+    run_headline _ run c.settings_of.result _ _ _ _ _ _ c.settings_of.ensures.settings (are_read _ _ run _ _ _ c.in-Ok.ensures.reached) (returns-in-Ok-clause-follows g c) c.run_inputs.ensures.keeps
 
 pub returns-in-Ok-clause-ends : goal.returns-in-Ok-clause-ends
 returns-in-Ok-clause-ends g c =
-    reads_end _ _ _ (reads_of (run_in c.args.run)) _ _ _ _ (all_are_reads (run_in c.args.run)) c.in-Ok.ensures.reads c.read_inputs.ensures.later c.run_inputs.ensures.ends
+    let r = c.in-Ok.ensures.reached.reached in
+    made_ends _ _ _ r.reads _ _ _ _ r.all r.made c.read_inputs.ensures.later c.run_inputs.ensures.ends
+
+pub returns-in-Err-clause-follows : goal.returns-in-Err-clause-follows
+returns-in-Err-clause-follows g c = let run = run_in c.args.run in stops_follow (inputs_plan run) (results_plan run) _ _ _ _ _ c.in-Err.ensures.stopped
 
 pub returns-in-Err-clause-completes : goal.returns-in-Err-clause-completes
-returns-in-Err-clause-completes g c = all_complete _ (run_in c.args.run) _ _ _ c.in-Err.ensures.follows
+returns-in-Err-clause-completes g c = all_complete _ (run_in c.args.run) _ _ _ (returns-in-Err-clause-follows g c)
 
 pub returns-in-Err-clause-headline : goal.returns-in-Err-clause-headline
-returns-in-Err-clause-headline g c = refused_headline _ (run_in c.args.run) _ _ _ c.in-Err.ensures.refusal.0 c.in-Err.ensures.refusal.1 c.in-Err.ensures.follows
+returns-in-Err-clause-headline g c =
+    let is = c.in-Err.ensures.stopped.refusal in
+    refused_headline _ (run_in c.args.run) _ _ _ (refusal_low _ is) (refusal_high _ is) (returns-in-Err-clause-follows g c)
+
+pub returns-in-Err-clause-ends : goal.returns-in-Err-clause-ends
+returns-in-Err-clause-ends g c = c.in-Err.ensures.stopped.ends

@@ -1,0 +1,39 @@
+//! The files that a command reads.
+
+ghost use Rattle.std.specs.Prelude.{◌≡◌, ◌≤◌, length};
+ghost use Rattle.ras_cli.specs.Files.{limit_of, word_of};
+
+use ras_words::{IMAGE_LIMIT, INPUT_LIMIT, SCRIPT_LIMIT};
+
+/// A file that a command reads.
+#[derive(Clone, Copy)]
+pub enum FileKind {
+    Image,
+    Script,
+    Input,
+}
+
+impl FileKind {
+    /// The most bytes that it may have.
+    pub fn limit(self) -> u64
+        ensures { result ≡ limit_of self }
+    {
+        match self {
+            FileKind::Image => IMAGE_LIMIT,
+            FileKind::Script => SCRIPT_LIMIT,
+            FileKind::Input => INPUT_LIMIT,
+        }
+    }
+
+    /// What lines call it.
+    pub fn word(self) -> &'static [u8]
+        ensures word { result.now ≡ word_of self }
+        ensures short { length result.now ≤ 100 }
+    {
+        match self {
+            FileKind::Image => b"image",
+            FileKind::Script => b"script",
+            FileKind::Input => b"input",
+        }
+    }
+}
