@@ -1,10 +1,8 @@
 //! Error banks, injections and the drain: registers as the profile has them, and races by hand.
 
 use poison_mem::{Class, Event, EventKind, EventLog};
-use ras_firmware::{Drain, Records, finish};
 use reri_bank::{ADDR, BANK_INFO, Banks, CONTROL, INFO, STATUS, STRIDE, TIMESTAMP, VALID_SUMMARY};
 use reri_inject::{count_down, stage};
-use std::test::Fail;
 
 const FIRST_STATUS: u16 = CONTROL + STATUS;
 
@@ -60,6 +58,24 @@ fn a_fresh_bank_and_one_corrected_word(rt: HostRuntime) {
 }
 
 #[test]
+fn the_count_of_corrected_errors_stops(rt: HostRuntime) {
+    let mut banks = Banks::new();
+    for _ in 0..65_535u32 {
+        banks.log(corrected());
+    }
+    assert_eq!(rt;
+        banks.bank(0).read_reg(FIRST_STATUS),
+        Some(0xFFFF_0000_0001_0443)
+    );
+    // One more sets `ceco` beside the full count.
+    banks.log(corrected());
+    assert_eq!(rt;
+        banks.bank(0).read_reg(FIRST_STATUS),
+        Some(0xFFFF_0000_0001_04C3)
+    );
+}
+
+#[test]
 fn the_worst_event_is_kept(rt: HostRuntime) {
     let mut banks = Banks::new();
     banks.log(injected(Class::Corrected, 0x8000_0100));
@@ -112,68 +128,4 @@ fn an_injection_comes_as_many_steps_later_as_it_says(rt: HostRuntime) {
     }
     assert_eq!(rt; banks.bank(0).read_reg(FIRST_STATUS), Some(0x0005_0409));
     assert_eq!(rt; banks.bank(0).read_reg(CONTROL + TIMESTAMP), Some(5));
-}
-
-// What happens to a record, in order.
-#[derive(Clone, Copy)]
-enum Act {
-    Log,
-    Mark,
-    Clear,
-}
-
-// The number of records emitted by these acts and at the stop after them, and the count of the last one.
-fn emitted_by(rt: &HostRuntime, acts: &[Act]) -> Result<(usize, usize, u16), Fail> {
-    let mut banks = Banks::new();
-    let mut drain = Drain::new();
-    let mut records = Records::make(rt.alloc())?;
-    for act in acts.iter() {
-        match *act {
-            Act::Log => banks.log(corrected()),
-            Act::Mark => drain.mark(&mut banks),
-            Act::Clear => drain.clear(&mut banks, &mut records),
-        }
-    }
-    let drained = records.list().len();
-    finish(&banks, &mut records);
-    let last = match records.list().last() {
-        None => 0,
-        Some(view) => view.cec,
-    };
-    Ok((drained, records.list().len(), last))
-}
-
-#[test]
-fn an_event_races_with_the_drain(rt: HostRuntime) -> Result<(), Fail> {
-    use Act::{Clear, Log, Mark};
-    for (acts, want) in [
-        ([Mark, Clear, Log, Log], (0, 1, 2)),
-        ([Log, Mark, Clear, Log], (1, 2, 1)),
-        ([Log, Mark, Log, Clear], (0, 1, 2)),
-        ([Log, Clear, Mark, Log], (0, 1, 2)),
-        ([Log, Log, Mark, Clear], (1, 1, 2)),
-        ([Log, Mark, Mark, Clear], (1, 1, 1)),
-        ([Log, Mark, Clear, Clear], (1, 1, 1)),
-        ([Clear, Mark, Log, Log], (0, 1, 2)),
-    ] {
-        assert_eq!(rt; emitted_by(&rt, &acts)?, want);
-    }
-    Ok(())
-}
-
-#[test]
-fn records_past_the_room_are_dropped_and_counted(rt: HostRuntime) -> Result<(), Fail> {
-    let mut banks = Banks::new();
-    let mut drain = Drain::new();
-    let mut records = Records::make(rt.alloc())?;
-    for step in 0..4099u64 {
-        banks.set_now(step);
-        banks.log(corrected());
-        drain.mark(&mut banks);
-        drain.clear(&mut banks, &mut records);
-    }
-    assert_eq!(rt; records.list().len(), 4096);
-    assert_eq!(rt; records.dropped(), 3);
-    assert_eq!(rt; records.list()[4095].kept.at, 4095);
-    Ok(())
 }

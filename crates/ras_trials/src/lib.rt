@@ -11,6 +11,8 @@ mod error_formats;
 #[cfg(test)]
 mod errors;
 #[cfg(test)]
+mod firmware;
+#[cfg(test)]
 mod helpers;
 #[cfg(test)]
 mod hosts;
@@ -20,5 +22,7 @@ mod inputs;
 mod machine;
 #[cfg(test)]
 mod memory;
+#[cfg(test)]
+mod reports;
 #[cfg(test)]
 mod words;

@@ -2,13 +2,13 @@
 
 use ras_numbers::{address, hex_digits, number};
 use ras_words::{
-    DEFAULT_BUDGET, DEFAULT_RAM_MIB, IMAGE_LIMIT, INPUT_LIMIT, LEAST_RAM_MIB, MOST_RAM_MIB,
-    RunWords, SCRIPT_LIMIT, WordsError, read_words,
+    Command, DEFAULT_BUDGET, DEFAULT_RAM_MIB, IMAGE_LIMIT, INPUT_LIMIT, LEAST_RAM_MIB,
+    MOST_RAM_MIB, MachineWords, SCRIPT_LIMIT, WordsError, read_words,
 };
 use std::alloc::{AllocError, Global};
 
 // What `run a.elf` asks for.
-const BARE: RunWords<'static> = RunWords {
+const BARE: MachineWords<'static> = MachineWords {
     image: "a.elf",
     raw: false,
     script: None,
@@ -26,22 +26,22 @@ fn words_of(alloc: Global, line: &str) -> Result<Vec<String>, AllocError> {
     Ok(words)
 }
 
-fn image(name: &str) -> RunWords<'_> {
-    RunWords {
+fn image(name: &str) -> MachineWords<'_> {
+    MachineWords {
         image: name,
         ..BARE
     }
 }
 
-fn script(name: &str) -> RunWords<'_> {
-    RunWords {
+fn script(name: &str) -> MachineWords<'_> {
+    MachineWords {
         script: Some(name),
         ..BARE
     }
 }
 
-fn budget(steps: u64) -> RunWords<'static> {
-    RunWords {
+fn budget(steps: u64) -> MachineWords<'static> {
+    MachineWords {
         budget: steps,
         ..BARE
     }
@@ -64,8 +64,8 @@ fn the_limits(rt: HostRuntime) {
 
 #[test]
 fn words_that_are_taken(rt: HostRuntime) -> Result<(), AllocError> {
-    let raw = RunWords { raw: true, ..BARE };
-    let all = RunWords {
+    let raw = MachineWords { raw: true, ..BARE };
+    let all = MachineWords {
         raw: true,
         script: Some("s"),
         input: Some("i"),
@@ -97,7 +97,7 @@ fn words_that_are_taken(rt: HostRuntime) -> Result<(), AllocError> {
     ] {
         let words = words_of(rt.alloc(), line)?;
         assert!(rt;
-            read_words(rt.alloc(), words.as_slice()) == Ok(wanted),
+            read_words(rt.alloc(), words.as_slice()) == Ok(Command::Run(wanted)),
             "{line}"
         );
     }
