@@ -325,6 +325,7 @@ fn a_record_with_a_section_of_73_bytes_is_read(rt: HostRuntime) {
         panic!(rt; "refused");
     };
     assert_eq!(rt; (record.id, record.length), (1, 273));
+    assert_eq!(rt; record.sections.len(), 1);
     let section = record.sections.as_slice()[0];
     assert_eq!(rt; section.kind, MEMORY_SECTION);
     assert_eq!(rt;

@@ -97,7 +97,7 @@ fn random_flips_leave_a_run_as_it_is_or_stop_it(rt: HostRuntime) -> Result<(), F
 fn a_step_is_one_step_of_the_run(rt: HostRuntime) -> Result<(), Fail> {
     let script = Script::read(
         rt.alloc(),
-        b"scrub 1 0x80000010\nflip 1 0x80000010 3\nflip 2 0x80000010 3",
+        b"scrub 1 0x80000010\nflip 1 0x80000010 3",
         WORDS_PER_MIB,
     )?;
     let bytes = bytes_of(rt.alloc(), &PRINT_H)?;
@@ -113,15 +113,24 @@ fn a_step_is_one_step_of_the_run(rt: HostRuntime) -> Result<(), Fail> {
     assert_eq!(rt; machine.steps(), 2);
     assert_eq!(rt; machine.cell_state(2).count, 1);
     assert_eq!(rt; machine.view(0), Cell::Good(0x0010_0893_0480_0513));
-    assert_eq!(rt; machine.step(&[], &script), None);
-    assert_eq!(rt; machine.cell_state(2).count, 2);
-    assert_eq!(rt; machine.view(2), Cell::Good(0x73));
+    Ok(())
+}
+
+#[test]
+fn an_ended_machine_answers_its_ending_again(rt: HostRuntime) -> Result<(), Fail> {
+    let script = Script::read(rt.alloc(), b"", WORDS_PER_MIB)?;
+    let bytes = bytes_of(rt.alloc(), &PRINT_H)?;
+    let image = Image::raw(rt.alloc(), bytes.as_slice(), WORDS_PER_MIB)?;
+    let settings = Settings {
+        budget: 0,
+        ..SETTINGS
+    };
+    let mut machine = Machine::make(rt.alloc(), &image, &settings)?;
     let budget = Ending {
         stop: Stop::Budget,
-        steps: 3,
+        steps: 0,
     };
     assert_eq!(rt; machine.step(&[], &script), Some(budget));
     assert_eq!(rt; machine.run(&[], &script), budget);
-    assert_eq!(rt; machine.hart().x(10), 0);
     Ok(())
 }
