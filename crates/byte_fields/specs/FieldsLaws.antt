@@ -3,7 +3,7 @@ use Rattle.std.proofs.Common.{◌≡◌, ℕ, zero, suc, ◌+◌, ◌-◌, ◌<�
 use Rattle.std.specs.Prelude.{nat_le, slice_get}
 use Rattle.std.specs.List.{AllByRecursion}
 use Rattle.std.proofs.lemmas.Bool.{leb-true}
-use Rattle.std.proofs.lemmas.List.{length-append, length-replicate, append-nil, drop-drop}
+use Rattle.std.proofs.lemmas.List.{length-append, length-replicate, append-nil, drop-drop, take-append-drop}
 use Rattle.std.proofs.Math.Seq.{drop-append_seam, take-append_seam}
 use Rattle.byteorder.specs.Numbers.{length-bytes_low_first, little_from-append, little_number-reads_back}
 use Rattle.byteorder.specs.Endian.{little_number}
@@ -74,46 +74,41 @@ slots_behind (f ∷ fs) front =
     later.is ∙ ap (λ (xs : List ℕ). xs ++ later.tail) own ∙ append_assoc front (zeros (f.slot.offset - length front) ++ content) later.tail in
     record { tail = (zeros (f.slot.offset - length front) ++ content) ++ later.tail; is = all }
 
--- bytes at the offset of a field: its own, and others behind them
-pub record StandsAt (whole : List ℕ) (f : Field) : Type 0 where
-  pub own : length (content_bytes f.slot.width f.content) ≡ f.slot.width
-  pub behind : List ℕ
-  pub there : drop f.slot.offset whole ≡ content_bytes f.slot.width f.content ++ behind
-
-stands_first : (f : Field) (fs : List Field) (front rest : List ℕ) → length front ≤ f.slot.offset → length (content_bytes f.slot.width f.content) ≡ f.slot.width
-    → StandsAt (with_slots front (f ∷ fs) ++ rest) f
-stands_first f fs front rest fits own =
+-- the first of some fields stands at its slot
+first_stands : (f : Field) (fs : List Field) (front rest : List ℕ) → length front ≤ f.slot.offset → length (content_bytes f.slot.width f.content) ≡ f.slot.width
+    → StandsAtSlot (with_slots front (f ∷ fs) ++ rest) f
+unfolding bytes_at
+first_stands f fs front rest fits own =
     let later = slots_behind fs (with_slot front f) in
     let content = content_bytes f.slot.width f.content in
     let head = padded f.slot.offset front in
-    let whole : with_slots front (f ∷ fs) ++ rest ≡ head ++ (content ++ (later.tail ++ rest)) =
-    ap (λ (xs : List ℕ). xs ++ rest) later.is ∙ append_assoc (head ++ content) later.tail rest ∙ append_assoc head content (later.tail ++ rest) in
-    record {
-      own = own;
-      behind = later.tail ++ rest;
-      there = ap (λ (n : ℕ). drop n (with_slots front (f ∷ fs) ++ rest)) (sym (length_padded f.slot.offset front fits))
-          ∙ ap (drop (length head)) whole ∙ drop-append_seam head (content ++ (later.tail ++ rest));
-    }
+    let behind = later.tail ++ rest in
+    let whole : with_slots front (f ∷ fs) ++ rest ≡ head ++ (content ++ behind) =
+    ap (λ (xs : List ℕ). xs ++ rest) later.is ∙ append_assoc (head ++ content) later.tail rest ∙ append_assoc head content behind in
+    let there : drop f.slot.offset (with_slots front (f ∷ fs) ++ rest) ≡ content ++ behind =
+    ap (λ (n : ℕ). drop n (with_slots front (f ∷ fs) ++ rest)) (sym (length_padded f.slot.offset front fits))
+    ∙ ap (drop (length head)) whole ∙ drop-append_seam head (content ++ behind) in
+    ap (take f.slot.width) there ∙ ap (λ (w : ℕ). take w (content ++ behind)) (sym own) ∙ take-append_seam content behind
 
-stands_from : (fs : List Field) (k start end : ℕ) (front rest : List ℕ) (f : Field) → length front ≤ start → fit_between start end fs ≡ true → HaveWidths fs → slice_get fs k ≡ Some f
-    → StandsAt (with_slots front fs ++ rest) f
-stands_from [] k start end front rest f short fit widths is = absurd cc
-stands_from (g ∷ fs) zero start end front rest f short fit widths is =
-    let first = fits_first start g.slot.offset (fit_between (g.slot.offset + g.slot.width) end fs) fit in
-    let own = length_content g (HaveWidths fs) widths in
-    let same : g ≡ f = cc in
-    subst (λ (h : Field). StandsAt (with_slots front (g ∷ fs) ++ rest) h) same (stands_first g fs front rest (omega (arith, short, first.0)) own.0)
-stands_from (g ∷ fs) (suc k) start end front rest f short fit widths is =
-    let first = fits_first start g.slot.offset (fit_between (g.slot.offset + g.slot.width) end fs) fit in
-    let own = length_content g (HaveWidths fs) widths in
-    let len = length_slot front g (omega (arith, short, first.0)) own.0 in
-    stands_from fs k (g.slot.offset + g.slot.width) end (with_slot front g) rest f (omega (arith, len)) first.1 own.1 is
+all_stand_from : (fs : List Field) (start end : ℕ) (front rest : List ℕ) → length front ≤ start → fit_between start end fs ≡ true → HaveWidths fs
+    → AllByRecursion (StandsAtSlot (with_slots front fs ++ rest)) fs
+all_stand_from [] start end front rest short fit widths = tt
+all_stand_from (f ∷ fs) start end front rest short fit widths =
+    let first = fits_first start f.slot.offset (fit_between (f.slot.offset + f.slot.width) end fs) fit in
+    let own = length_content f (HaveWidths fs) widths in
+    let len = length_slot front f (omega (arith, short, first.0)) own.0 in
+    let here : StandsAtSlot (with_slots front (f ∷ fs) ++ rest) f = first_stands f fs front rest (omega (arith, short, first.0)) own.0 in
+    (here, all_stand_from fs (f.slot.offset + f.slot.width) end (with_slot front f) rest (omega (arith, len)) first.1 own.1)
 
--- field k of a format stands at its slot, whatever follows the format
-pub stands : (n : ℕ) (fs : List Field) (k : ℕ) (rest : List ℕ) (f : Field) → fit_between 0 n fs ≡ true → HaveWidths fs → slice_get fs k ≡ Some f → StandsAt (laid_out n fs ++ rest) f
-stands n fs k rest f fit widths is =
-    subst (λ (xs : List ℕ). StandsAt xs f) (sym (padded_before n (with_slots [] fs) rest))
-    (stands_from fs k 0 n [] (zeros (n - length (with_slots [] fs)) ++ rest) f (omega arith) fit widths is)
+-- every field of a format stands at its slot, whatever follows the format: each field that is read back is so by this law
+pub fields_stand : (n : ℕ) (fs : List Field) (rest : List ℕ) → fit_between 0 n fs ≡ true → HaveWidths fs → AllByRecursion (StandsAtSlot (laid_out n fs ++ rest)) fs
+fields_stand n fs rest fit widths =
+    subst (λ (xs : List ℕ). AllByRecursion (StandsAtSlot xs) fs) (sym (padded_before n (with_slots [] fs) rest))
+    (all_stand_from fs 0 n [] (zeros (n - length (with_slots [] fs)) ++ rest) (omega arith) fit widths)
+
+-- so they do where nothing follows it
+pub fields_stand_alone : (n : ℕ) (fs : List Field) → fit_between 0 n fs ≡ true → HaveWidths fs → AllByRecursion (StandsAtSlot (laid_out n fs)) fs
+fields_stand_alone n fs fit widths = subst (λ (xs : List ℕ). AllByRecursion (StandsAtSlot xs) fs) (append-nil (laid_out n fs)) (fields_stand n fs [] fit widths)
 
 -- a number further on
 pub number_further : (width skip at : ℕ) (b : List ℕ) → number_at width (skip + at) b ≡ number_at width at (drop skip b)
@@ -154,48 +149,41 @@ pub lies_behind : {b : List ℕ} {start n : ℕ} {before : List Field} (m : ℕ)
     → LiesAt b (start + n) m fs rest
 lies_behind m fs rest lies fit widths = record { fit = fit; widths = widths; there = behind_lying lies }
 
+-- what holds of each field of a format holds of field k
+holds_of : (P : Field → Type 0) (fs : List Field) (k : ℕ) (f : Field) → AllByRecursion P fs → slice_get fs k ≡ Some f → P f
+holds_of P [] k f all is = absurd cc
+holds_of P (g ∷ fs) zero f all is = let same : g ≡ f = cc in subst P same all.0
+holds_of P (g ∷ fs) (suc k) f all is = holds_of P fs k f all.1 is
+
+-- field k of a format stands at its slot, wherever the format lies
+field_stands : {b : List ℕ} {start n : ℕ} {fs : List Field} {rest : List ℕ} (k : ℕ) (f : Field) → LiesAt b start n fs rest → slice_get fs k ≡ Some f → StandsAtSlot (drop start b) f
+field_stands {b = b} {start = start} {n = n} {fs = fs} {rest = rest} k f lies is =
+    subst (λ (xs : List ℕ). StandsAtSlot xs f) (sym lies.there) (holds_of (StandsAtSlot (laid_out n fs ++ rest)) fs k f (fields_stand n fs rest lies.fit lies.widths) is)
+
+-- bytes that stand at an offset, with what stands behind them
+stands_with : (b : List ℕ) (width at : ℕ) (bytes : List ℕ) → bytes_at width at b ≡ bytes → drop at b ≡ bytes ++ drop width (drop at b)
+unfolding bytes_at
+stands_with b width at bytes there = sym (take-append-drop width (drop at b)) ∙ ap (λ (xs : List ℕ). xs ++ drop width (drop at b)) there
+
 -- a number is read at its slot
 pub number_back : {b : List ℕ} {start n : ℕ} {fs : List Field} {rest : List ℕ} (k : ℕ) (slot : Slot) (value : ℕ) → LiesAt b start n fs rest → slice_get fs k ≡ Some (number_field slot value)
     → value < 256 ^ slot.width → number_in slot start b ≡ value
 unfolding number_at little
-number_back {b = b} {start = start} {n = n} {fs = fs} {rest = rest} k slot value lies is fits =
-    let s = stands n fs k rest (number_field slot value) lies.fit lies.widths is in
-    number_further slot.width start slot.offset b ∙ ap (number_at slot.width slot.offset) lies.there
-    ∙ ap (little_number slot.width) s.there ∙ little_number-reads_back slot.width value s.behind fits
+number_back {b = b} {start = start} k slot value lies is fits =
+    number_further slot.width start slot.offset b
+    ∙ ap (little_number slot.width) (stands_with (drop start b) slot.width slot.offset (little slot.width value) (field_stands k (number_field slot value) lies is))
+    ∙ little_number-reads_back slot.width value (drop slot.width (drop slot.offset (drop start b))) fits
 
 -- bytes are read at their slot
 pub bytes_back : {b : List ℕ} {start n : ℕ} {fs : List Field} {rest : List ℕ} (k : ℕ) (slot : Slot) (bytes : List ℕ) → LiesAt b start n fs rest → slice_get fs k ≡ Some (bytes_field slot bytes)
     → bytes_in slot start b ≡ bytes
-unfolding bytes_at
-bytes_back {b = b} {start = start} {n = n} {fs = fs} {rest = rest} k slot bytes lies is =
-    let s = stands n fs k rest (bytes_field slot bytes) lies.fit lies.widths is in
-    bytes_further slot.width start slot.offset b ∙ ap (bytes_at slot.width slot.offset) lies.there
-    ∙ ap (take slot.width) s.there ∙ ap (λ (w : ℕ). take w (bytes ++ s.behind)) (sym s.own) ∙ take-append_seam bytes s.behind
+bytes_back {b = b} {start = start} k slot bytes lies is = bytes_further slot.width start slot.offset b ∙ field_stands k (bytes_field slot bytes) lies is
 
 -- bytes are read at their slot as the number that they are by themselves
 pub bytes_as_number : {b : List ℕ} {start n : ℕ} {fs : List Field} {rest : List ℕ} (k : ℕ) (slot : Slot) (bytes : List ℕ) → LiesAt b start n fs rest → slice_get fs k ≡ Some (bytes_field slot bytes)
-    → number_in slot start b ≡ number_at slot.width 0 bytes
+    → length bytes ≡ slot.width → number_in slot start b ≡ number_at slot.width 0 bytes
 unfolding number_at
-bytes_as_number {b = b} {start = start} {n = n} {fs = fs} {rest = rest} k slot bytes lies is =
-    let s = stands n fs k rest (bytes_field slot bytes) lies.fit lies.widths is in
-    number_further slot.width start slot.offset b ∙ ap (number_at slot.width slot.offset) lies.there
-    ∙ ap (little_number slot.width) s.there ∙ little_from-append slot.width bytes s.behind (omega (arith, s.own))
-
--- every field of a format stands at its slot
-all_stand_from : (fs : List Field) (start end : ℕ) (front rest : List ℕ) → length front ≤ start → fit_between start end fs ≡ true → HaveWidths fs
-    → AllByRecursion (StandsAtSlot (with_slots front fs ++ rest)) fs
-unfolding bytes_at
-all_stand_from [] start end front rest short fit widths = tt
-all_stand_from (f ∷ fs) start end front rest short fit widths =
-    let first = fits_first start f.slot.offset (fit_between (f.slot.offset + f.slot.width) end fs) fit in
-    let own = length_content f (HaveWidths fs) widths in
-    let content = content_bytes f.slot.width f.content in
-    let s = stands_first f fs front rest (omega (arith, short, first.0)) own.0 in
-    let len = length_slot front f (omega (arith, short, first.0)) own.0 in
-    let here : StandsAtSlot (with_slots front (f ∷ fs) ++ rest) f =
-    ap (take f.slot.width) s.there ∙ ap (λ (w : ℕ). take w (content ++ s.behind)) (sym s.own) ∙ take-append_seam content s.behind in
-    (here, all_stand_from fs (f.slot.offset + f.slot.width) end (with_slot front f) rest (omega (arith, len)) first.1 own.1)
-
-pub all_stand : (n : ℕ) (fs : List Field) → fit_between 0 n fs ≡ true → HaveWidths fs → AllByRecursion (StandsAtSlot (laid_out n fs)) fs
-unfolding padded
-all_stand n fs fit widths = all_stand_from fs 0 n [] (zeros (n - length (with_slots [] fs))) (omega arith) fit widths
+bytes_as_number {b = b} {start = start} k slot bytes lies is own =
+    number_further slot.width start slot.offset b
+    ∙ ap (little_number slot.width) (stands_with (drop start b) slot.width slot.offset bytes (field_stands k (bytes_field slot bytes) lies is))
+    ∙ little_from-append slot.width bytes (drop slot.width (drop slot.offset (drop start b))) (omega (arith, own))

@@ -4,11 +4,13 @@
 //! Numbers are little-endian. No call of this crate takes memory.
 #![tactic(auto)]
 
+mod laws;
 mod reading;
 mod section;
 mod slot;
 mod writing;
 
+pub use laws::fields_stand_at_their_slots;
 pub use reading::{array_in, u8_in, u16_in, u32_in, u64_in};
 pub use section::{FRU_TEXT_VALID, SectionSlots, section_in};
 pub use slot::Slot;

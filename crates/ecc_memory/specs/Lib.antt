@@ -5,3 +5,4 @@ pub mod Lines
 pub mod Standing
 pub mod WordLaws
 pub mod LinesLaws
+pub mod EventsLaws

@@ -1,5 +1,5 @@
 -- The stack keeps what it stands for, and of the calls of a run only a flip adds to the flips that a word counts.
-use Rattle.std.proofs.Common.{ℕ, ◌^◌, ◌+◌, ◌*◌, ◌/◌, ◌%◌, ◌<◌, ◌≤◌, ◌≡◌, List, [], replicate, length, subst, sym, ap, refl, arith, map, slice_index}
+use Rattle.std.proofs.Common.{ℕ, ◌^◌, ◌+◌, ◌*◌, ◌/◌, ◌%◌, ◌<◌, ◌≡◌, List, replicate, length, subst, ap, refl, arith, map, slice_index}
 use Rattle.std.proofs.lemmas.List.{length-replicate, length-map}
 use Rattle.std.proofs.Math.ListN.{get_or-map}
 use Rattle.poison_mem.specs.declared.line.Line.{Line}
@@ -12,7 +12,7 @@ use Rattle.poison_mem.specs.Line.{cell}
 use Rattle.poison_mem.specs.Level.{InRange, LineShows, LinesKeepWords, LinesKeepCounts, KeepsLines, CellsKeepLines}
 use Rattle.poison_cache.specs.Cache.{cache_calls}
 use Rattle.poison_cache.specs.WordsLaws.{cache_keeps_words, store_words}
-use Rattle.poison_cache.specs.EntriesLaws.{no_lines_sound, cache_keeps_entries}
+use Rattle.poison_cache.specs.EntriesLaws.{no_lines_sound}
 use Rattle.poison_cache.specs.CountsLaws.{cache_cells_keep_counts, cache_lines_keep_counts, store_counts}
 use Rattle.poison_cache.specs.StandingLaws.{cache_keeps_lines, cache_cells_keep_lines, store-keeps, store-valid, empty-stands}
 use Rattle.ecc_memory.specs.Word.{codeword_of}

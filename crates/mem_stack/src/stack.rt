@@ -127,6 +127,7 @@ impl Bus for Stack {
         self.l1.words()
     }
 
+    #[inline]
     fn read<G: EventLog>(&mut self, w: u32, g: &mut G) -> Cell {
         self.l1.read_word(w, g)
     }

@@ -35,9 +35,6 @@ none_of_line l (h ∷ hs) others =
 
 -- one set
 module _ (a : Arrays) (ways first : ℕ) (ordered : IsOrderedSet a ways first) where
-  list : List Held
-  list = up_from (ranked_in a ways first) 0 ways
-
   pub at_rank : (r : ℕ) → r < ways → slice_get (up_from (ranked_in a ways first) 0 ways) r ≡ ranked_in a ways first r
   at_rank r below =
       up_from-at (ranked_in a ways first) ways 0 r (λ i j le lt none. ordered.no_gap i j le (omega arith) none) below

@@ -1,5 +1,5 @@
 -- A write-back cache over any level: lists of the most recently used lines (its events and its poison: RERI 1.0, data poisoning).
-use Rattle.std.specs.Prelude.{ℕ, ◌+◌, ◌-◌, ◌*◌, ◌%◌, ◌/◌, List, [], ◌∷◌, ◌++◌, Option, None, Some, Bool, true, false, length, take, drop, nat_lt, zero, suc, slice_get, slice_set, slice_index_or}
+use Rattle.std.specs.Prelude.{ℕ, ◌+◌, ◌-◌, ◌*◌, ◌%◌, ◌/◌, List, [], ◌∷◌, ◌++◌, Option, None, Some, Bool, true, false, length, take, drop, nat_lt, zero, suc, slice_get}
 use Rattle.poison_mem.specs.declared.cell.Cell.{Cell}
 use Rattle.poison_mem.specs.declared.cell.Cell.TheVariants.{Good, Poison}
 use Rattle.poison_mem.specs.declared.line.Line.{Line}
@@ -11,10 +11,11 @@ use Rattle.poison_mem.specs.Event.{event_of}
 use Rattle.poison_mem.specs.Line.{cell, with_cell}
 use Rattle.poison_mem.specs.Merge.{merged_cell}
 use Rattle.poison_mem.specs.Cells.{CellCalls}
-use Rattle.poison_mem.specs.Level.{Level, LineReading}
+use Rattle.std.specs.List.{AllByRecursion}
+use Rattle.poison_mem.specs.Level.{Level, LineReading, InRange}
 use Rattle.poison_mem.specs.Bus.{Storing}
 use Rattle.poison_cache.specs.LogTo.{LogTo}
-use Rattle.poison_cache.specs.Recent.{entry_of, without}
+use Rattle.poison_cache.specs.Recent.{entry_of, without, line_list, with_line_list}
 
 -- a cache over a level with states S: its lists of entries, the most recent first, where it logs, and the level below
 pub record CachedLines (S : Type 0) : Type 0 where
@@ -46,6 +47,10 @@ evicted_as false level log_to h below = record { after = below; events = [] }
 -- a line is given up: a dirty one is written back
 unfoldable pub evicted : {S : Type 0} → Level S → LogTo → Held → S → Storing S
 evicted level log_to h below = evicted_as h.dirty level log_to h below
+
+-- the lines of these entries are in the range of the level below
+abbrev pub AreInRange : {S : Type 0} → Level S → S → List Held → Type 0
+AreInRange level below entries = AllByRecursion (λ h. InRange level below h.line) entries
 
 -- a list and the level below, with the events on the way
 pub record Room (S : Type 0) : Type 0 where
@@ -108,13 +113,13 @@ put_as None level log_to ways entries below l cells =
 unfoldable pub put_in : {S : Type 0} → Level S → LogTo → ℕ → List Held → S → ℕ → Line → Room S
 put_in level log_to ways entries below l cells = put_as (entry_of l entries) level log_to ways entries below l cells
 
--- the list of a line
+-- the list of a line in the state
 abbrev pub list_of : {S : Type 0} → ℕ → CachedLines S → ℕ → List Held
-list_of sets s l = slice_index_or s.lists (l % sets) []
+list_of sets s l = line_list sets s.lists l
 
 -- the state with another list for a line, and another state below
 abbrev pub with_list : {S : Type 0} → ℕ → CachedLines S → ℕ → List Held → S → CachedLines S
-with_list sets s l entries below = record { lists = slice_set s.lists (l % sets) entries; log_to = s.log_to; below = below }
+with_list sets s l entries below = record { lists = with_line_list sets s.lists l entries; log_to = s.log_to; below = below }
 
 -- a read of a line
 unfoldable pub cache_get : {S : Type 0} → ℕ → ℕ → Level S → CachedLines S → ℕ → LineReading (CachedLines S)

@@ -1,5 +1,5 @@
 -- The entries of one set, the most recent first.
-use Rattle.std.specs.Prelude.{ℕ, ◌==◌, ◌-◌, List, [], ◌∷◌, Option, None, Some, true, nat_lt, if◌then◌else◌, length, take, slice_get}
+use Rattle.std.specs.Prelude.{ℕ, ◌==◌, ◌-◌, ◌%◌, List, [], ◌∷◌, Option, None, Some, true, nat_lt, if◌then◌else◌, length, take, slice_get, slice_set, slice_index_or}
 use Rattle.poison_mem.specs.declared.cache_state.Held.{Held}
 use Rattle.poison_mem.specs.declared.line.Line.{Line}
 use Rattle.poison_mem.specs.Line.{cell, with_cell}
@@ -44,3 +44,20 @@ dirty_victim_of ways hs = dirty_one (victim_of ways hs)
 -- a list without its victim, where it is full
 abbrev pub with_room : ℕ → List Held → List Held
 with_room ways hs = if nat_lt (length hs) ways then hs else take (length hs - 1) hs
+
+-- the list of a line: that of its set
+abbrev pub line_list : ℕ → List (List Held) → ℕ → List Held
+line_list sets lists l = slice_index_or lists (l % sets) []
+
+-- the entry of a line in its set
+abbrev pub line_entry : ℕ → List (List Held) → ℕ → Option Held
+line_entry sets lists l = entry_of l (line_list sets lists l)
+
+-- the lists with another list for a line
+abbrev pub with_line_list : ℕ → List (List Held) → ℕ → List Held → List (List Held)
+with_line_list sets lists l list = slice_set lists (l % sets) list
+
+-- the lists after a hit: what became of the line's entry is in front of its set
+abbrev pub renewed_in : ℕ → List (List Held) → ℕ → (Held → Held) → List (List Held)
+renewed_in sets lists l renew =
+    with_line_list sets lists l (renewed_as (line_entry sets lists l) renew l (line_list sets lists l))

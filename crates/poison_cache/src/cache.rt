@@ -1,14 +1,13 @@
 //! The cache.
 
-ghost use Rattle.std.specs.Prelude.{◌≡◌, ◌+◌, ◌*◌, ◌<◌, ◌≤◌, ◌/◌, ◌%◌, ℕ, true, None, [], ◌∷◌, replicate, slice_index_or, slice_set, IfOk};
+ghost use Rattle.std.specs.Prelude.{◌≡◌, ◌+◌, ◌*◌, ◌<◌, ◌≤◌, ◌/◌, ◌%◌, ℕ, true, None, [], ◌∷◌, replicate, IfOk};
 ghost use Rattle.poison_mem.specs.Flips.{stored_at, renewed_at};
-ghost use Rattle.std.specs.List.{AllByRecursion};
 ghost use Rattle.poison_mem.specs.Level.{InRange};
 ghost use Rattle.poison_mem.specs.Line.{cell};
 ghost use Rattle.poison_mem.specs.Bus.{logged_all};
 ghost use Rattle.poison_cache.specs.declared.sets.TheConstants.{MOST_HELD};
-ghost use Rattle.poison_cache.specs.Recent.{entry_of};
-ghost use Rattle.poison_cache.specs.Cache.{evicted_as, room_in, get_as, get_in, put_in, store_in, poison_events, cell_event};
+ghost use Rattle.poison_cache.specs.Recent.{line_list, line_entry, with_line_list};
+ghost use Rattle.poison_cache.specs.Cache.{AreInRange, evicted_as, room_in, get_as, get_in, put_in, store_in, poison_events, cell_event};
 
 use crate::sets::Sets;
 use poison_mem::{
@@ -54,7 +53,8 @@ fn log_cell<G: EventLog>(log_to: LogTo, line: u32, i: u8, cell: Cell, g: &mut G)
 /// One event for each poisoned word of a line that is written back, in rising order.
 #[tactic(auto, using(crate::proofs::Logging::one_more_logged))]
 fn log_poison<G: EventLog>(log_to: LogTo, held: &Held, g: &mut G)
-    ensures { g.new ≡ logged_all G.logged g.old (poison_events log_to held.now.line held.now.cells 8) }
+    ensures { g.new ≡
+        logged_all G.logged g.old (poison_events log_to held.now.line held.now.cells 8) }
 {
     for i in 0..8u8 {
         log_cell(log_to, held.line, i, held.cells.cell(i), g);
@@ -66,11 +66,35 @@ fn log_poison<G: EventLog>(log_to: LogTo, held: &Held, g: &mut G)
 fn write_back<M: LineMem, G: EventLog>(log_to: LogTo, victim: &Held, below: &mut M, g: &mut G)
     requires { InRange M.level below.old victim.now.line }
     ensures after { below.new ≡ (evicted_as true M.level log_to victim.now below.old).after }
-    ensures events { g.new ≡ logged_all G.logged g.old (evicted_as true M.level log_to victim.now below.old).events }
+    ensures events { g.new ≡
+        logged_all G.logged g.old (evicted_as true M.level log_to victim.now below.old).events }
     ensures words { M.level.words below.new ≡ M.level.words below.old }
 {
     log_poison(log_to, victim, g);
     below.put_line(victim.line, &victim.cells, g);
+}
+
+/// As `make_room`, for a set whose victim is to be written back. It stands apart, since it moves a whole line.
+#[inline(never)]
+fn evict<M: LineMem, G: EventLog, const SETS: usize, const WAYS: usize>(
+    log_to: LogTo,
+    sets: &Sets<SETS, WAYS>,
+    below: &mut M,
+    l: u32,
+    g: &mut G,
+)
+    requires range { AreInRange M.level below.old (line_list SETS sets.now l) }
+    ensures below { below.new ≡
+        (room_in M.level log_to WAYS (line_list SETS sets.now l) below.old).below }
+    ensures events { g.new ≡
+        logged_all G.logged g.old
+        (room_in M.level log_to WAYS (line_list SETS sets.now l) below.old).events }
+    ensures words { M.level.words below.new ≡ M.level.words below.old }
+{
+    match sets.dirty_victim(l) {
+        Some(victim) => write_back(log_to, &victim, below, g),
+        None => (),
+    }
 }
 
 /// Room for one more entry in the set of a line: a full set evicts its last, which is written back where it is dirty.
@@ -81,14 +105,16 @@ fn make_room<M: LineMem, G: EventLog, const SETS: usize, const WAYS: usize>(
     l: u32,
     g: &mut G,
 )
-    requires range { AllByRecursion (λ h. InRange M.level below.old h.line) (slice_index_or sets.now (l % SETS) []) }
-    ensures below { below.new ≡ (room_in M.level log_to WAYS (slice_index_or sets.now (l % SETS) []) below.old).below }
-    ensures events { g.new ≡ logged_all G.logged g.old (room_in M.level log_to WAYS (slice_index_or sets.now (l % SETS) []) below.old).events }
+    requires range { AreInRange M.level below.old (line_list SETS sets.now l) }
+    ensures below { below.new ≡
+        (room_in M.level log_to WAYS (line_list SETS sets.now l) below.old).below }
+    ensures events { g.new ≡
+        logged_all G.logged g.old
+        (room_in M.level log_to WAYS (line_list SETS sets.now l) below.old).events }
     ensures words { M.level.words below.new ≡ M.level.words below.old }
 {
-    match sets.dirty_victim(l) {
-        Some(victim) => write_back(log_to, &victim, below, g),
-        None => (),
+    if sets.has_dirty_victim(l) {
+        evict(log_to, sets, below, l, g);
     }
 }
 
@@ -101,11 +127,15 @@ fn fetch<M: LineMem, G: EventLog, const SETS: usize, const WAYS: usize>(
     l: u32,
     g: &mut G,
 ) -> Line
-    requires range { AllByRecursion (λ h. InRange M.level below.old h.line) (slice_index_or sets.now (l % SETS) []) }
+    requires range { AreInRange M.level below.old (line_list SETS sets.now l) }
     requires line { InRange M.level below.old l }
-    ensures cells { result ≡ (get_as None M.level log_to WAYS (slice_index_or sets.now (l % SETS) []) below.old l).cells }
-    ensures below { below.new ≡ (get_as None M.level log_to WAYS (slice_index_or sets.now (l % SETS) []) below.old l).below }
-    ensures events { g.new ≡ logged_all G.logged g.old (get_as None M.level log_to WAYS (slice_index_or sets.now (l % SETS) []) below.old l).events }
+    ensures cells { result ≡
+        (get_as None M.level log_to WAYS (line_list SETS sets.now l) below.old l).cells }
+    ensures below { below.new ≡
+        (get_as None M.level log_to WAYS (line_list SETS sets.now l) below.old l).below }
+    ensures events { g.new ≡
+        logged_all G.logged g.old
+        (get_as None M.level log_to WAYS (line_list SETS sets.now l) below.old l).events }
     ensures words { M.level.words below.new ≡ M.level.words below.old }
 {
     make_room(log_to, sets, below, l, g);
@@ -120,13 +150,19 @@ fn fill<M: LineMem, G: EventLog, const SETS: usize, const WAYS: usize>(
     l: u32,
     g: &mut G,
 ) -> Line
-    requires range { AllByRecursion (λ h. InRange M.level below.old h.line) (slice_index_or sets.old (l % SETS) []) }
+    requires range { AreInRange M.level below.old (line_list SETS sets.old l) }
     requires line { InRange M.level below.old l }
-    requires absent { entry_of l (slice_index_or sets.old (l % SETS) []) ≡ None }
-    ensures cells { result ≡ (get_as None M.level log_to WAYS (slice_index_or sets.old (l % SETS) []) below.old l).cells }
-    ensures sets { sets.new ≡ slice_set sets.old (l % SETS) (get_as None M.level log_to WAYS (slice_index_or sets.old (l % SETS) []) below.old l).entries }
-    ensures below { below.new ≡ (get_as None M.level log_to WAYS (slice_index_or sets.old (l % SETS) []) below.old l).below }
-    ensures events { g.new ≡ logged_all G.logged g.old (get_as None M.level log_to WAYS (slice_index_or sets.old (l % SETS) []) below.old l).events }
+    requires absent { line_entry SETS sets.old l ≡ None }
+    ensures cells { result ≡
+        (get_as None M.level log_to WAYS (line_list SETS sets.old l) below.old l).cells }
+    ensures sets { sets.new ≡
+        with_line_list SETS sets.old l
+        (get_as None M.level log_to WAYS (line_list SETS sets.old l) below.old l).entries }
+    ensures below { below.new ≡
+        (get_as None M.level log_to WAYS (line_list SETS sets.old l) below.old l).below }
+    ensures events { g.new ≡
+        logged_all G.logged g.old
+        (get_as None M.level log_to WAYS (line_list SETS sets.old l) below.old l).events }
     ensures words { M.level.words below.new ≡ M.level.words below.old }
 {
     let cells = fetch(log_to, sets, below, l, g);
@@ -142,12 +178,18 @@ fn get_line<M: LineMem, G: EventLog, const SETS: usize, const WAYS: usize>(
     l: u32,
     g: &mut G,
 ) -> Line
-    requires range { AllByRecursion (λ h. InRange M.level below.old h.line) (slice_index_or sets.old (l % SETS) []) }
+    requires range { AreInRange M.level below.old (line_list SETS sets.old l) }
     requires line { InRange M.level below.old l }
-    ensures cells { result ≡ (get_in M.level log_to WAYS (slice_index_or sets.old (l % SETS) []) below.old l).cells }
-    ensures sets { sets.new ≡ slice_set sets.old (l % SETS) (get_in M.level log_to WAYS (slice_index_or sets.old (l % SETS) []) below.old l).entries }
-    ensures below { below.new ≡ (get_in M.level log_to WAYS (slice_index_or sets.old (l % SETS) []) below.old l).below }
-    ensures events { g.new ≡ logged_all G.logged g.old (get_in M.level log_to WAYS (slice_index_or sets.old (l % SETS) []) below.old l).events }
+    ensures cells { result ≡
+        (get_in M.level log_to WAYS (line_list SETS sets.old l) below.old l).cells }
+    ensures sets { sets.new ≡
+        with_line_list SETS sets.old l
+        (get_in M.level log_to WAYS (line_list SETS sets.old l) below.old l).entries }
+    ensures below { below.new ≡
+        (get_in M.level log_to WAYS (line_list SETS sets.old l) below.old l).below }
+    ensures events { g.new ≡
+        logged_all G.logged g.old
+        (get_in M.level log_to WAYS (line_list SETS sets.old l) below.old l).events }
     ensures words { M.level.words below.new ≡ M.level.words below.old }
 {
     match sets.read_cells(l) {
@@ -156,7 +198,39 @@ fn get_line<M: LineMem, G: EventLog, const SETS: usize, const WAYS: usize>(
     }
 }
 
+/// One cell of a line that isn't held, which is read from below and put in front of its set, clean.
+///
+/// It stands apart, so that the way of a hit is short.
+#[inline(never)]
+fn fill_word<M: LineMem, G: EventLog, const SETS: usize, const WAYS: usize>(
+    log_to: LogTo,
+    sets: &mut Sets<SETS, WAYS>,
+    below: &mut M,
+    w: u32,
+    g: &mut G,
+) -> Cell
+    requires range { AreInRange M.level below.old (line_list SETS sets.old (w / 8)) }
+    requires line { InRange M.level below.old (w / 8) }
+    requires absent { line_entry SETS sets.old (w / 8) ≡ None }
+    ensures cell { result ≡
+        cell
+        (get_as None M.level log_to WAYS (line_list SETS sets.old (w / 8)) below.old (w / 8)).cells
+        (w % 8) }
+    ensures sets { sets.new ≡
+        with_line_list SETS sets.old (w / 8)
+        (get_as None M.level log_to WAYS (line_list SETS sets.old (w / 8)) below.old (w / 8)).entries }
+    ensures below { below.new ≡
+        (get_as None M.level log_to WAYS (line_list SETS sets.old (w / 8)) below.old (w / 8)).below }
+    ensures events { g.new ≡
+        logged_all G.logged g.old
+        (get_as None M.level log_to WAYS (line_list SETS sets.old (w / 8)) below.old (w / 8)).events }
+    ensures words { M.level.words below.new ≡ M.level.words below.old }
+{
+    fill(log_to, sets, below, w / 8, g).cell((w % 8) as u8)
+}
+
 /// One cell of what the set of its line and the level below show.
+#[inline]
 fn get_word<M: LineMem, G: EventLog, const SETS: usize, const WAYS: usize>(
     log_to: LogTo,
     sets: &mut Sets<SETS, WAYS>,
@@ -164,17 +238,25 @@ fn get_word<M: LineMem, G: EventLog, const SETS: usize, const WAYS: usize>(
     w: u32,
     g: &mut G,
 ) -> Cell
-    requires range { AllByRecursion (λ h. InRange M.level below.old h.line) (slice_index_or sets.old (w / 8 % SETS) []) }
+    requires range { AreInRange M.level below.old (line_list SETS sets.old (w / 8)) }
     requires line { InRange M.level below.old (w / 8) }
-    ensures cell { result ≡ cell (get_in M.level log_to WAYS (slice_index_or sets.old (w / 8 % SETS) []) below.old (w / 8)).cells (w % 8) }
-    ensures sets { sets.new ≡ slice_set sets.old (w / 8 % SETS) (get_in M.level log_to WAYS (slice_index_or sets.old (w / 8 % SETS) []) below.old (w / 8)).entries }
-    ensures below { below.new ≡ (get_in M.level log_to WAYS (slice_index_or sets.old (w / 8 % SETS) []) below.old (w / 8)).below }
-    ensures events { g.new ≡ logged_all G.logged g.old (get_in M.level log_to WAYS (slice_index_or sets.old (w / 8 % SETS) []) below.old (w / 8)).events }
+    ensures cell { result ≡
+        cell
+        (get_in M.level log_to WAYS (line_list SETS sets.old (w / 8)) below.old (w / 8)).cells
+        (w % 8) }
+    ensures sets { sets.new ≡
+        with_line_list SETS sets.old (w / 8)
+        (get_in M.level log_to WAYS (line_list SETS sets.old (w / 8)) below.old (w / 8)).entries }
+    ensures below { below.new ≡
+        (get_in M.level log_to WAYS (line_list SETS sets.old (w / 8)) below.old (w / 8)).below }
+    ensures events { g.new ≡
+        logged_all G.logged g.old
+        (get_in M.level log_to WAYS (line_list SETS sets.old (w / 8)) below.old (w / 8)).events }
     ensures words { M.level.words below.new ≡ M.level.words below.old }
 {
     match sets.read_cell(w / 8, (w % 8) as u8) {
         Some(cell) => cell,
-        None => fill(log_to, sets, below, w / 8, g).cell((w % 8) as u8),
+        None => fill_word(log_to, sets, below, w, g),
     }
 }
 
@@ -187,17 +269,54 @@ fn put_line<M: LineMem, G: EventLog, const SETS: usize, const WAYS: usize>(
     cells: &Line,
     g: &mut G,
 )
-    requires range { AllByRecursion (λ h. InRange M.level below.old h.line) (slice_index_or sets.old (l % SETS) []) }
+    requires range { AreInRange M.level below.old (line_list SETS sets.old l) }
     requires line { InRange M.level below.old l }
-    ensures sets { sets.new ≡ slice_set sets.old (l % SETS) (put_in M.level log_to WAYS (slice_index_or sets.old (l % SETS) []) below.old l cells.now).entries }
-    ensures below { below.new ≡ (put_in M.level log_to WAYS (slice_index_or sets.old (l % SETS) []) below.old l cells.now).below }
-    ensures events { g.new ≡ logged_all G.logged g.old (put_in M.level log_to WAYS (slice_index_or sets.old (l % SETS) []) below.old l cells.now).events }
+    ensures sets { sets.new ≡
+        with_line_list SETS sets.old l
+        (put_in M.level log_to WAYS (line_list SETS sets.old l) below.old l cells.now).entries }
+    ensures below { below.new ≡
+        (put_in M.level log_to WAYS (line_list SETS sets.old l) below.old l cells.now).below }
+    ensures events { g.new ≡
+        logged_all G.logged g.old
+        (put_in M.level log_to WAYS (line_list SETS sets.old l) below.old l cells.now).events }
     ensures words { M.level.words below.new ≡ M.level.words below.old }
 {
     if !sets.put_cells(l, cells) {
         make_room(log_to, sets, below, l, g);
         sets.put_first(l, true, cells);
     }
+}
+
+/// A word of a line that isn't held is stored: the line is read from below and put in front of its set, dirty.
+///
+/// It stands apart, so that the way of a hit is short.
+#[inline(never)]
+fn store_missed<M: LineMem, G: EventLog, const SETS: usize, const WAYS: usize>(
+    log_to: LogTo,
+    sets: &mut Sets<SETS, WAYS>,
+    below: &mut M,
+    w: u32,
+    v: u64,
+    mask: u8,
+    g: &mut G,
+)
+    requires range { AreInRange M.level below.old (line_list SETS sets.old (w / 8)) }
+    requires line { InRange M.level below.old (w / 8) }
+    requires absent { line_entry SETS sets.old (w / 8) ≡ None }
+    ensures sets { sets.new ≡
+        with_line_list SETS sets.old (w / 8)
+        (store_in M.level log_to WAYS (line_list SETS sets.old (w / 8)) below.old w v mask).entries }
+    ensures below { below.new ≡
+        (store_in M.level log_to WAYS (line_list SETS sets.old (w / 8)) below.old w v mask).below }
+    ensures events { g.new ≡
+        logged_all G.logged g.old
+        (store_in M.level log_to WAYS (line_list SETS sets.old (w / 8)) below.old w v mask).events }
+    ensures words { M.level.words below.new ≡ M.level.words below.old }
+{
+    let i = (w % 8) as u8;
+    let mut cells = fetch(log_to, sets, below, w / 8, g);
+    cells.set(i, merge(cells.cell(i), v, mask));
+    sets.put_first(w / 8, true, &cells);
 }
 
 /// A word of a line is stored, and the line is dirty.
@@ -210,18 +329,20 @@ fn store_word<M: LineMem, G: EventLog, const SETS: usize, const WAYS: usize>(
     mask: u8,
     g: &mut G,
 )
-    requires range { AllByRecursion (λ h. InRange M.level below.old h.line) (slice_index_or sets.old (w / 8 % SETS) []) }
+    requires range { AreInRange M.level below.old (line_list SETS sets.old (w / 8)) }
     requires line { InRange M.level below.old (w / 8) }
-    ensures sets { sets.new ≡ slice_set sets.old (w / 8 % SETS) (store_in M.level log_to WAYS (slice_index_or sets.old (w / 8 % SETS) []) below.old w v mask).entries }
-    ensures below { below.new ≡ (store_in M.level log_to WAYS (slice_index_or sets.old (w / 8 % SETS) []) below.old w v mask).below }
-    ensures events { g.new ≡ logged_all G.logged g.old (store_in M.level log_to WAYS (slice_index_or sets.old (w / 8 % SETS) []) below.old w v mask).events }
+    ensures sets { sets.new ≡
+        with_line_list SETS sets.old (w / 8)
+        (store_in M.level log_to WAYS (line_list SETS sets.old (w / 8)) below.old w v mask).entries }
+    ensures below { below.new ≡
+        (store_in M.level log_to WAYS (line_list SETS sets.old (w / 8)) below.old w v mask).below }
+    ensures events { g.new ≡
+        logged_all G.logged g.old
+        (store_in M.level log_to WAYS (line_list SETS sets.old (w / 8)) below.old w v mask).events }
     ensures words { M.level.words below.new ≡ M.level.words below.old }
 {
-    let i = (w % 8) as u8;
-    if !sets.store_cell(w / 8, i, v, mask) {
-        let mut cells = fetch(log_to, sets, below, w / 8, g);
-        cells.set(i, merge(cells.cell(i), v, mask));
-        sets.put_first(w / 8, true, &cells);
+    if !sets.store_cell(w / 8, (w % 8) as u8, v, mask) {
+        store_missed(log_to, sets, below, w, v, mask, g);
     }
 }
 
@@ -263,7 +384,12 @@ impl<M: LineMem, const SETS: usize, const WAYS: usize> Cache<M, SETS, WAYS> {
         requires sets { 1 ≤ SETS }
         requires ways { 1 ≤ WAYS }
         requires most { SETS * WAYS ≤ MOST_HELD }
-        ensures empty { IfOk result (λ c. c ≡ record { lists = replicate SETS []; log_to = record { bank = bank; rec = rec }; below = below }) }
+        ensures empty { IfOk result (λ c. c ≡
+            record {
+              lists = replicate SETS [];
+              log_to = record { bank = bank; rec = rec };
+              below = below;
+            }) }
 
         // Each line stands for what it does below.
         ensures stands { IfOk result (λ c. (l : ℕ) (f q : ℕ → ℕ) → M.stands below l f q → CacheStands M.stands SETS c l f q) }
@@ -278,11 +404,13 @@ impl<M: LineMem, const SETS: usize, const WAYS: usize> Cache<M, SETS, WAYS> {
     }
 
     /// Reads the word `w`: its cell of what `read_line` gives for its line, and all else as `read_line` leaves it.
+    #[inline]
     pub fn read_word<G: EventLog>(&mut self, w: u32, g: &mut G) -> Cell
         requires { w < M.level.words self.old.below }
         ensures cell { result ≡ cell (cache_get SETS WAYS M.level self.old (w / 8)).cells (w % 8) }
         ensures after { self.new ≡ (cache_get SETS WAYS M.level self.old (w / 8)).after }
-        ensures events { g.new ≡ logged_all G.logged g.old (cache_get SETS WAYS M.level self.old (w / 8)).events }
+        ensures events { g.new ≡
+            logged_all G.logged g.old (cache_get SETS WAYS M.level self.old (w / 8)).events }
         ensures words { M.level.words self.new.below ≡ M.level.words self.old.below }
     {
         let log_to = self.log_to;
@@ -296,7 +424,8 @@ impl<M: LineMem, const SETS: usize, const WAYS: usize> Cache<M, SETS, WAYS> {
     pub fn store<G: EventLog>(&mut self, w: u32, v: u64, mask: u8, g: &mut G)
         requires { w < M.level.words self.old.below }
         ensures after { self.new ≡ (cache_store SETS WAYS M.level self.old w v mask).after }
-        ensures events { g.new ≡ logged_all G.logged g.old (cache_store SETS WAYS M.level self.old w v mask).events }
+        ensures events { g.new ≡
+            logged_all G.logged g.old (cache_store SETS WAYS M.level self.old w v mask).events }
         ensures words { M.level.words self.new.below ≡ M.level.words self.old.below }
 
         // Each line that stands still does, for the words with the stored bytes.

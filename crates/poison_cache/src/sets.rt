@@ -1,12 +1,12 @@
 //! The sets of a cache, in flat arrays.
 
-ghost use Rattle.std.specs.Prelude.{◌≡◌, ◌+◌, ◌<◌, ◌≤◌, ◌*◌, ◌%◌, ℕ, List, [], ◌∷◌, ◌++◌, length, replicate, slice_get, slice_index_or, slice_set, None, IfOk};
+ghost use Rattle.std.specs.Prelude.{◌≡◌, ◌+◌, ◌<◌, ◌≤◌, ◌*◌, ◌%◌, ℕ, List, [], ◌∷◌, ◌++◌, length, replicate, slice_get, slice_index_or, None, IfOk};
 ghost use Rattle.std.specs.Option.{option_map, is_some};
 ghost use Rattle.poison_mem.specs.Line.{cell};
 ghost use Rattle.poison_cache.specs.declared.sets.TheConstants.{MOST_HELD};
 ghost use Rattle.poison_cache.specs.Ranks.{AreNewRanks};
 ghost use Rattle.poison_cache.specs.Sets.{entry_in};
-ghost use Rattle.poison_cache.specs.Recent.{entry_of, renewed_as, with_cells, stored_into, dirty_victim_of, with_room};
+ghost use Rattle.poison_cache.specs.Recent.{line_list, line_entry, with_line_list, renewed_in, with_cells, stored_into, dirty_victim_of, with_room};
 
 use crate::ways::{Flag, empty_all, empty_way, last_way, promote, way_of_line, way_of_rank};
 use poison_mem::{Cell, Held, Line, merge};
@@ -69,7 +69,9 @@ fn held_at(lines: &[u32], flags: &[Flag], cells: &[Line], way: usize) -> Option<
     requires lines { way < length lines.now }
     requires flags { way < length flags.now }
     requires cells { way < length cells.now }
-    ensures { (ranks : List ℕ) → result ≡ entry_in (record { lines = lines.now; flags = flags.now; ranks = ranks; cells = cells.now }) way }
+    ensures { (ranks : List ℕ) → result ≡
+        entry_in (record { lines = lines.now; flags = flags.now; ranks = ranks; cells = cells.now })
+        way }
 {
     let line = lines[way];
     let cells = cells[way];
@@ -123,7 +125,7 @@ impl<const SETS: usize, const WAYS: usize> Sets<SETS, WAYS> {
 
     /// The cells of a line.
     pub(crate) fn cells(&self, l: u32) -> Option<Line>
-        ensures { result ≡ option_map (λ h. h.cells) (entry_of l (slice_index_or self.now (l % SETS) [])) }
+        ensures { result ≡ option_map (λ h. h.cells) (line_entry SETS self.now l) }
     {
         let lines = &self.lines;
         let first = first_way(SETS, WAYS, l);
@@ -135,8 +137,8 @@ impl<const SETS: usize, const WAYS: usize> Sets<SETS, WAYS> {
 
     /// The cells of a line, which is the most recent of its set then.
     pub(crate) fn read_cells(&mut self, l: u32) -> Option<Line>
-        ensures cells { result ≡ option_map (λ h. h.cells) (entry_of l (slice_index_or self.old (l % SETS) [])) }
-        ensures after { self.new ≡ slice_set self.old (l % SETS) (renewed_as (entry_of l (slice_index_or self.old (l % SETS) [])) (λ h. h) l (slice_index_or self.old (l % SETS) [])) }
+        ensures cells { result ≡ option_map (λ h. h.cells) (line_entry SETS self.old l) }
+        ensures after { self.new ≡ renewed_in SETS self.old l (λ h. h) }
     {
         let lines = &self.lines;
         let first = first_way(SETS, WAYS, l);
@@ -150,10 +152,11 @@ impl<const SETS: usize, const WAYS: usize> Sets<SETS, WAYS> {
     }
 
     /// One cell of a line, which is the most recent of its set then.
+    #[inline]
     pub(crate) fn read_cell(&mut self, l: u32, i: u8) -> Option<Cell>
         requires { i < 8 }
-        ensures cell { result ≡ option_map (λ h. cell h.cells i) (entry_of l (slice_index_or self.old (l % SETS) [])) }
-        ensures after { self.new ≡ slice_set self.old (l % SETS) (renewed_as (entry_of l (slice_index_or self.old (l % SETS) [])) (λ h. h) l (slice_index_or self.old (l % SETS) [])) }
+        ensures cell { result ≡ option_map (λ h. cell h.cells i) (line_entry SETS self.old l) }
+        ensures after { self.new ≡ renewed_in SETS self.old l (λ h. h) }
     {
         let lines = &self.lines;
         let first = first_way(SETS, WAYS, l);
@@ -169,8 +172,8 @@ impl<const SETS: usize, const WAYS: usize> Sets<SETS, WAYS> {
 
     /// Sets the cells of a line, which is the most recent of its set then, and dirty. Answers whether it is held.
     pub(crate) fn put_cells(&mut self, l: u32, cells: &Line) -> bool
-        ensures held { result ≡ is_some (entry_of l (slice_index_or self.old (l % SETS) [])) }
-        ensures after { self.new ≡ slice_set self.old (l % SETS) (renewed_as (entry_of l (slice_index_or self.old (l % SETS) [])) (λ h. with_cells h cells.now) l (slice_index_or self.old (l % SETS) [])) }
+        ensures held { result ≡ is_some (line_entry SETS self.old l) }
+        ensures after { self.new ≡ renewed_in SETS self.old l (λ h. with_cells h cells.now) }
     {
         let lines = &self.lines;
         let first = first_way(SETS, WAYS, l);
@@ -188,8 +191,8 @@ impl<const SETS: usize, const WAYS: usize> Sets<SETS, WAYS> {
     /// Stores into a cell of a line, which is the most recent of its set then, and dirty. Answers whether it is held.
     pub(crate) fn store_cell(&mut self, l: u32, i: u8, v: u64, mask: u8) -> bool
         requires { i < 8 }
-        ensures held { result ≡ is_some (entry_of l (slice_index_or self.old (l % SETS) [])) }
-        ensures after { self.new ≡ slice_set self.old (l % SETS) (renewed_as (entry_of l (slice_index_or self.old (l % SETS) [])) (stored_into i v mask) l (slice_index_or self.old (l % SETS) [])) }
+        ensures held { result ≡ is_some (line_entry SETS self.old l) }
+        ensures after { self.new ≡ renewed_in SETS self.old l (stored_into i v mask) }
     {
         let lines = &self.lines;
         let first = first_way(SETS, WAYS, l);
@@ -205,9 +208,22 @@ impl<const SETS: usize, const WAYS: usize> Sets<SETS, WAYS> {
         }
     }
 
+    /// Whether a line's set has no room for another entry and its last one is dirty.
+    pub(crate) fn has_dirty_victim(&self, l: u32) -> bool
+        ensures { result ≡ is_some (dirty_victim_of WAYS (line_list SETS self.now l)) }
+    {
+        let ranks = &self.ranks;
+        let first = first_way(SETS, WAYS, l);
+        let way = last_way(ranks, first, WAYS);
+        match self.flags[way] {
+            Flag::Empty | Flag::Clean => false,
+            Flag::Dirty => true,
+        }
+    }
+
     /// The last entry of a line's set, where there is no room for another one and it is dirty.
     pub(crate) fn dirty_victim(&self, l: u32) -> Option<Held>
-        ensures { result ≡ dirty_victim_of WAYS (slice_index_or self.now (l % SETS) []) }
+        ensures { result ≡ dirty_victim_of WAYS (line_list SETS self.now l) }
     {
         let ranks = &self.ranks;
         let first = first_way(SETS, WAYS, l);
@@ -224,8 +240,10 @@ impl<const SETS: usize, const WAYS: usize> Sets<SETS, WAYS> {
 
     /// Puts an entry in front of its set, in place of the last one where there is no room for both.
     pub(crate) fn put_first(&mut self, line: u32, dirty: bool, cells: &Line)
-        requires { entry_of line (slice_index_or self.old (line % SETS) []) ≡ None }
-        ensures { self.new ≡ slice_set self.old (line % SETS) (record { line = line; dirty = dirty; cells = cells.now } ∷ with_room WAYS (slice_index_or self.old (line % SETS) [])) }
+        requires { line_entry SETS self.old line ≡ None }
+        ensures { self.new ≡
+            with_line_list SETS self.old line
+            (record { line = line; dirty = dirty; cells = cells.now } ∷ with_room WAYS (line_list SETS self.old line)) }
     {
         let ranks = &self.ranks;
         let first = first_way(SETS, WAYS, line);
@@ -258,9 +276,11 @@ impl<const SETS: usize, const WAYS: usize> Sets<SETS, WAYS> {
 
     /// Appends an entry to the list of its set.
     pub(crate) fn place_last(&mut self, held: &Held)
-        requires absent { entry_of held.now.line (slice_index_or self.old (held.now.line % SETS) []) ≡ None }
-        requires room { length (slice_index_or self.old (held.now.line % SETS) []) < WAYS }
-        ensures { self.new ≡ slice_set self.old (held.now.line % SETS) (slice_index_or self.old (held.now.line % SETS) [] ++ held.now ∷ []) }
+        requires absent { line_entry SETS self.old held.now.line ≡ None }
+        requires room { length (line_list SETS self.old held.now.line) < WAYS }
+        ensures { self.new ≡
+            with_line_list SETS self.old held.now.line
+            (line_list SETS self.old held.now.line ++ held.now ∷ []) }
     {
         let ranks = &self.ranks;
         let first = first_way(SETS, WAYS, held.line);

@@ -229,6 +229,23 @@ module _ {B L : Type 0} (bus : BusMeaning B) (logged : L → Event → L) (actin
       finished_stays around.words h (play bus logged (turn around h) s.bus s.log) are is
       (play_ends bus logged around.words (OutcomeWithin around.words h) (turn around h) 600 s.bus s.log (turn_within around h))
 
+alone_bits : (waiting : List ArchitecturalState) (at : ℕ) (h : ArchitecturalState) → at < length waiting → length (slice_set waiting at h) ≡ 1
+    → from_bool h.started ≡ started_bits (slice_set waiting at h)
+alone_bits [] at h within one = absurd (omega arith)
+alone_bits (x ∷ []) zero h within one = omega arith
+alone_bits (x ∷ []) (suc at) h within one = absurd (omega arith)
+alone_bits (x ∷ y ∷ rest) at h within one =
+    let len : length (slice_set (x ∷ y ∷ rest) at h) ≡ length (x ∷ y ∷ rest) = length-set (x ∷ y ∷ rest) at h in
+    absurd (omega arith)
+
+-- what a hart is told that is the only one
+pub alone_peers : (waiting : List ArchitecturalState) (at : ℕ) (h : ArchitecturalState) (harts : List ArchitecturalState) (count started : ℕ)
+    → at < length waiting → slice_set waiting at h ≡ harts → length harts ≡ 1 → count ≡ length harts → started ≡ from_bool h.started
+    → record { harts = count; started = started } ≡ peers_of harts
+alone_peers waiting at h harts count started within is one counted bit =
+    let bits : from_bool h.started ≡ started_bits harts = subst (λ hs. from_bool h.started ≡ started_bits hs) is (alone_bits waiting at h within (ap length is ∙ one)) in
+    rw (counted, bit, bits) refl
+
 -- ---- over the shared memory
 
 -- an effect on the hart that acts and on those that wait is one on all harts

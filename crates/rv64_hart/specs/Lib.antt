@@ -25,4 +25,5 @@ pub mod Within
 pub mod WithinLaws
 pub mod RamBytes
 pub mod RamBytesLaws
+pub mod RamFillsLaws
 pub mod Program

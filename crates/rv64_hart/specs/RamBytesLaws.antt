@@ -66,7 +66,7 @@ word_byte ram w (suc n) j within = by_place (λ k below. word_byte ram (w + 1) n
         ∙ ap (λ v. slice_index (to_le_bytes w64 (slice_index ram v)) ((j - 8) % 8)) next_word
         ∙ ap (slice_index (to_le_bytes w64 (slice_index ram (w + j / 8)))) same_byte
 
-touched_all : (address n i : ℕ) → i < n → address % 8 + i < 8 * words_touched address n
+pub touched_all : (address n i : ℕ) → i < n → address % 8 + i < 8 * words_touched address n
 touched_all address zero i within = absurd (omega arith)
 touched_all address (suc n) i within =
     let count : words_touched address (suc n) ≡ (address % 8 + suc n + 7) / 8 = words_touched_some address n in

@@ -241,7 +241,7 @@ pub words_touched_some : (address n : ℕ) → words_touched address (suc n) ≡
 words_touched_some address n = grind (arith, nat_tests)
 
 -- bytes in RAM are in words that are there
-words_fit : (words address n : ℕ) → IsTouched words address n → 0 < words_touched address n → word_at address + words_touched address n ≤ words
+pub words_fit : (words address n : ℕ) → IsTouched words address n → 0 < words_touched address n → word_at address + words_touched address n ≤ words
 words_fit words address zero touched some = omega arith
 words_fit words address (suc n) touched some =
     let starts : RAM_START ≤ address = touched.starts (omega arith) in
@@ -264,13 +264,13 @@ written_within words h address n touched few =
     (λ bytes _. kept words h _ 0 _ _ (refl, refl, refl) tt)
 
 -- the first of the bytes are in RAM, where all are
-touched_first : (words address n k : ℕ) → k ≤ n → IsTouched words address n → IsTouched words address k
+pub touched_first : (words address n k : ℕ) → k ≤ n → IsTouched words address n → IsTouched words address k
 touched_first words address n k fewer touched = record {
   starts = λ some. touched.starts (omega arith);
   ends = λ some. let ends : address + n ≤ word_address words = touched.ends (omega arith) in omega arith;
 }
 
-taken_is_few : (n : ℕ) (bytes : List ℕ) → length (take n bytes) ≤ n
+pub taken_is_few : (n : ℕ) (bytes : List ℕ) → length (take n bytes) ≤ n
 taken_is_few n bytes = let e : length (take n bytes) ≡ min n (length bytes) = length-take n bytes in omega arith
 
 read_within : (words : ℕ) (h : ArchitecturalState) (input : List ℕ) (address n : ℕ) → IsTouched words address n

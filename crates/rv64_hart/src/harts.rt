@@ -179,6 +179,10 @@ impl<B> Harts<B> {
         ensures { result ≡ peers_of self.now.harts }
     {
         let harts = self.count();
+        if harts == 1 {
+            let started = u8::from(self.acting.started());
+            return Peers { harts, started };
+        }
         let mut started = 0;
         let mut i = harts;
         while i > 0 {

@@ -31,6 +31,6 @@ pub use console::Console;
 pub use ends::{Effect, TurnEnd};
 pub use hart::{Hart, HartState};
 pub use harts::Harts;
-pub use laws::{console_writes_are_bytes_of_ram, steps_go_by_their_events};
+pub use laws::{console_reads_fill_ram, console_writes_are_bytes_of_ram, steps_go_by_their_events};
 pub use peers::Peers;
 pub use shared::Shared;

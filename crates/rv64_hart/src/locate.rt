@@ -25,6 +25,7 @@ pub(crate) enum Located {
 }
 
 /// An access at a physical address, which must be in RAM.
+#[inline]
 fn at(words: u32, kind: Access, physical: u64) -> Located
     ensures value { located_at words kind physical ≡ result }
     ensures in_ram { IsFoundInRam words result }
@@ -70,6 +71,7 @@ fn follow<B: Bus, G: EventLog>(
 
 impl Hart {
     /// Where an access of this kind to a virtual address goes. The page-table entries on the way are read.
+    #[inline]
     #[tactic(auto, unfolding(sv39_walk::specs::Walking::walk, crate::specs::Translation::walked))]
     pub(crate) fn locate<B: Bus, G: EventLog>(
         &self,
@@ -84,12 +86,30 @@ impl Hart {
         ensures words { B.meaning.words bus.new ≡ B.meaning.words bus.old }
         ensures in_page { IsFoundInPage words address result }
     {
-        let csrs = self.csrs();
-        let satp = csrs.satp();
         // Without translation, as most programs run, no walk is made.
-        if get_field(satp, 60, 4) == 0 {
+        if get_field(self.csrs().satp(), 60, 4) == 0 {
             return at(words, kind, address);
         }
+        self.translate(words, kind, address, bus, log)
+    }
+
+    /// Where an access goes by a walk through page tables. It stands apart, so that an access without one stays short.
+    #[inline(never)]
+    fn translate<B: Bus, G: EventLog>(
+        &self,
+        words: u32,
+        kind: Access,
+        address: u64,
+        bus: &mut B,
+        log: &mut G,
+    ) -> Located
+        requires { words ≡ B.meaning.words bus.old }
+        ensures plays { play B.meaning G.logged (located words self.now kind address) bus.old log.old ≡ located_end result bus.new log.new }
+        ensures words { B.meaning.words bus.new ≡ B.meaning.words bus.old }
+        ensures in_page { IsFoundInPage words address result }
+    {
+        let csrs = self.csrs();
+        let satp = csrs.satp();
         let walk = Walk::start(satp, address, kind, self.mode(), csrs.sum(), csrs.mxr());
         follow(words, kind, walk, bus, log)
     }

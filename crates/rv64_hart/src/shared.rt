@@ -105,6 +105,7 @@ impl<B: Bus> Bus for Shared<B> {
         self.memory.words()
     }
 
+    #[inline]
     fn read<G: EventLog>(&mut self, w: u32, g: &mut G) -> Cell {
         self.memory.read(w, g)
     }

@@ -1,1 +1,2 @@
 mod Selection
+mod MaskBits

@@ -12,10 +12,10 @@ ipi_call r = if r.function == 0 then SendIpi r.a0 r.a1 else Unknown
 abbrev pub all_harts : ℕ
 all_harts = 2 ^ 64 - 1
 
--- The harts of a mask and a base, as a number with a bit for each of so many harts: bit i of the mask stands for hart base + i.
--- None where a set bit stands for a hart that isn't there.
+-- the mask moved up by its base, as a whole number; none where that isn't a number with a bit for each of so many harts
+abbrev pub moved_mask : ℕ → ℕ → ℕ → Option ℕ
+moved_mask mask base harts = if nat_lt (mask * 2 ^ base) (2 ^ harts) then Some (mask * 2 ^ base) else None
+
+-- the harts of a mask and a base, bit i for hart i: bit i of the mask stands for hart base + i; none where a set bit stands for no hart
 abbrev pub harts_of_mask : ℕ → ℕ → ℕ → Option ℕ
-harts_of_mask mask base harts =
-    if base == all_harts then Some (2 ^ harts - 1)
-    else if nat_lt (mask * 2 ^ base) (2 ^ harts) then Some (mask * 2 ^ base)
-    else None
+harts_of_mask mask base harts = if base == all_harts then Some (2 ^ harts - 1) else moved_mask mask base harts

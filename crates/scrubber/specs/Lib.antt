@@ -1,2 +1,3 @@
 pub mod PatrolState
 pub mod Patrol
+pub mod Interval

@@ -3,8 +3,10 @@
 //! No call of this crate takes memory.
 #![tactic(auto)]
 
+mod interval;
 mod patrol;
 
+pub use interval::Interval;
 pub use patrol::{Patrol, scrubs_the_words_in_turn};
 
 #[cfg(test)]
@@ -24,8 +26,13 @@ mod tests {
             (64, 127, Some(0)),
             (u64::MAX, u64::MAX - 1, Some(0)),
         ] {
-            let patrol = Patrol::new(every, 8);
+            let mut patrol = Patrol::new(every, 8);
             assert_eq!(rt; patrol.due(step), want, "every {every}, step {step}");
+            assert_eq!(rt;
+                patrol.due_in_turn(step),
+                want,
+                "every {every}, step {step}"
+            );
         }
     }
 
@@ -41,5 +48,24 @@ mod tests {
         assert_eq!(rt; patrol.due(7), Some(2));
         patrol.done();
         assert_eq!(rt; patrol.due(8), Some(0));
+    }
+
+    #[test]
+    fn what_is_left_of_an_interval_is_counted_in_any_order(rt: HostRuntime) {
+        let mut interval = Interval::new(5);
+        for (step, want) in [
+            (0, 5),
+            (3, 2),
+            (4, 1),
+            (5, 5),
+            (14, 1),
+            (15, 5),
+            (2, 3),
+            (u64::MAX, 5),
+        ] {
+            assert_eq!(rt; interval.left(step), want, "step {step}");
+        }
+        let mut none = Interval::new(0);
+        assert_eq!(rt; none.left(7), 0);
     }
 }

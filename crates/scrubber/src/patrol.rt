@@ -4,12 +4,13 @@ ghost use Rattle.std.specs.Prelude.{◌≡◌, ◌<◌, ◌/◌, ℕ};
 ghost use Rattle.scrubber.specs.PatrolState.{PatrolState};
 ghost use Rattle.scrubber.specs.Patrol.{new_patrol, due_at, moved_on, moved_to, next_after, after_steps};
 
+use crate::interval::Interval;
 use std::marker::Model;
 
 /// A patrol over the words of a memory.
 #[derive(Drop)]
 pub struct Patrol {
-    every: u64,
+    every: Interval,
     words: u32,
     next: u32,
 }
@@ -34,7 +35,7 @@ impl Patrol {
         ensures { result ≡ new_patrol every words }
     {
         Patrol {
-            every,
+            every: Interval::new(every),
             words,
             next: 0,
         }
@@ -44,7 +45,20 @@ impl Patrol {
     pub fn due(&self, n: u64) -> Option<u32>
         ensures { result ≡ due_at self.now n }
     {
-        if self.every > 0 && n % self.every == self.every - 1 {
+        let every = self.every.every();
+        if every > 0 && n % every == every - 1 {
+            Some(self.next)
+        } else {
+            None
+        }
+    }
+
+    /// As `due`, without a division where the step that was asked for last is the one before.
+    pub fn due_in_turn(&mut self, n: u64) -> Option<u32>
+        ensures due { result ≡ due_at self.old n }
+        ensures stays { self.new ≡ self.old }
+    {
+        if self.every.left(n) == 1 {
             Some(self.next)
         } else {
             None

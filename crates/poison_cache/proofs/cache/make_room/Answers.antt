@@ -1,22 +1,17 @@
-use Rattle.std.proofs.Common.{◌%◌, ◌∙◌, [], sym, ap, slice_index_or}
+use Rattle.std.proofs.Common.{◌≡◌, ◌∙◌, None, sym, ap}
 use Rattle.poison_mem.specs.Bus.{logged_all}
-use Rattle.poison_cache.proofs.Hits.{dirty_room, clean_room}
+use Rattle.poison_cache.specs.Recent.{dirty_victim_of, line_list}
+use Rattle.poison_cache.proofs.Hits.{clean_room, none_held}
 use Rattle.poison_cache.proofs.cache.make_room.Goals as goal
 
-pub returns-in-Some-clause-below : goal.returns-in-Some-clause-below
-returns-in-Some-clause-below g c =
-    c.write_back.ensures.after ∙ sym (dirty_room g.M.LineMem.level c.args.log_to g.row.WAYS (slice_index_or c.args.sets.now (c.args.l % g.row.SETS) []) c.args.below.now c.in-Some.victim (sym c.in-Some.ensures)).0
+pub returns-else-has_dirty_victim-clause-below : goal.returns-else-has_dirty_victim-clause-below
+returns-else-has_dirty_victim-clause-below g c =
+    let hs = line_list g.row.SETS c.args.sets.now c.args.l in
+    let clean : dirty_victim_of g.row.WAYS hs ≡ None = none_held (dirty_victim_of g.row.WAYS hs) (sym c.has_dirty_victim.ensures ∙ c.if-has_dirty_victim.false) in
+    sym (clean_room g.M.LineMem.level c.args.log_to g.row.WAYS hs c.args.below.now clean).0
 
-pub returns-in-Some-clause-events : goal.returns-in-Some-clause-events
-returns-in-Some-clause-events g c =
-    c.write_back.ensures.events
-    ∙ ap (logged_all g.G.EventLog.logged c.args.g.now)
-    (sym (dirty_room g.M.LineMem.level c.args.log_to g.row.WAYS (slice_index_or c.args.sets.now (c.args.l % g.row.SETS) []) c.args.below.now c.in-Some.victim (sym c.in-Some.ensures)).1)
-
-pub returns-in-None-clause-below : goal.returns-in-None-clause-below
-returns-in-None-clause-below g c = sym (clean_room g.M.LineMem.level c.args.log_to g.row.WAYS (slice_index_or c.args.sets.now (c.args.l % g.row.SETS) []) c.args.below.now (sym c.in-None.ensures)).0
-
-pub returns-in-None-clause-events : goal.returns-in-None-clause-events
-returns-in-None-clause-events g c =
-    ap (logged_all g.G.EventLog.logged c.args.g.now)
-    (sym (clean_room g.M.LineMem.level c.args.log_to g.row.WAYS (slice_index_or c.args.sets.now (c.args.l % g.row.SETS) []) c.args.below.now (sym c.in-None.ensures)).1)
+pub returns-else-has_dirty_victim-clause-events : goal.returns-else-has_dirty_victim-clause-events
+returns-else-has_dirty_victim-clause-events g c =
+    let hs = line_list g.row.SETS c.args.sets.now c.args.l in
+    let clean : dirty_victim_of g.row.WAYS hs ≡ None = none_held (dirty_victim_of g.row.WAYS hs) (sym c.has_dirty_victim.ensures ∙ c.if-has_dirty_victim.false) in
+    ap (logged_all g.G.EventLog.logged c.args.g.now) (sym (clean_room g.M.LineMem.level c.args.log_to g.row.WAYS hs c.args.below.now clean).1)

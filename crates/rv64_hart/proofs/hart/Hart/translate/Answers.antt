@@ -1,6 +1,6 @@
 use Rattle.sv39_walk.specs.Progress.{left_of}
 use Rattle.rv64_hart.proofs.Pages.{walk_found}
-use Rattle.rv64_hart.proofs.hart.Hart.locate.Goals as goal
+use Rattle.rv64_hart.proofs.hart.Hart.translate.Goals as goal
 
 pub returns-clause-in_page : goal.returns-clause-in_page
 returns-clause-in_page g c =
