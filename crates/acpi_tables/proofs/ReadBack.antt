@@ -1,4 +1,5 @@
--- What was written is read again, whatever follows it.
+-- What was written is read again, whatever follows it; the fields of a block are, since those of every format stand at
+-- their slots.
 use Rattle.std.proofs.Common.{◌≡◌, ℕ, ◌+◌, ◌-◌, ◌*◌, ◌/◌, ◌%◌, ◌^◌, ◌<◌, ◌≤◌, Bool, true, false, ltb, List, [], ◌∷◌, ◌++◌, length, take, drop, Ok, refl, sym, ap, ◌∙◌, append_assoc, arith}
 use Rattle.std.specs.Prelude.{if◌then◌else◌, sum, codes}
 use Rattle.std.specs.List.{flat_map, AllByRecursion}
@@ -9,7 +10,6 @@ use Rattle.std.proofs.Math.Seq.{drop-append_seam}
 use Rattle.std.specs.Int.{from_bool}
 use Rattle.ras_bits.specs.Fields.{field, number_at}
 use Rattle.ras_bits.specs.BitsLaws.{flag_small}
-use Rattle.ras_bits.specs.declared.map.TheConstants.{BOOT_REGION_LENGTH, BOOT_REGION_START}
 use Rattle.ras_bits.specs.declared.terms.SectionAt.{SectionAt}
 use Rattle.byte_fields.specs.Fields.{little, zeros, padded, number_in, laid_out, HaveWidths}
 use Rattle.byte_fields.specs.FieldsLaws.{LiesAt, lies_in_front, behind_lying, number_back, bytes_back, length_laid_out}
@@ -20,7 +20,7 @@ use Rattle.acpi_tables.specs.Entries.{entry_bytes, entry_fields, entry_header, e
 use Rattle.acpi_tables.specs.declared.blocks.TheConstants as block
 use Rattle.acpi_tables.specs.declared.entries.TheConstants as entry
 use Rattle.acpi_tables.specs.Reading.{table_of, signature_of, table_length, hest_of, bert_of, block_of, entries_in, entry_section, entry_section_length, entry_end, entry_start}
-use Rattle.acpi_tables.specs.Written.{IsEntry, section_of, block_sections, block_view}
+use Rattle.acpi_tables.specs.Written.{hest_view, bert_view, IsEntry, section_of, block_sections, block_view}
 use Rattle.acpi_tables.specs.declared.entries.Entry.{Entry}
 use Rattle.acpi_tables.proofs.TableLemmas.{hest_sums, bert_sums}
 use Rattle.acpi_tables.proofs.BlockLemmas.{entries_from, entry_read, next_start}
@@ -38,7 +38,7 @@ unfolding little zeros padded number_at
 bert_table rest =
     table_read (codes "BERT") (bert_bytes ++ rest) bert_length 48 (omega (arith, length-append bert_bytes rest)) refl refl (omega arith) (omega (arith, length-append bert_bytes rest)) bert_sums
 
-pub bert_back : (rest : List ℕ) → bert_of (bert_bytes ++ rest) ≡ Ok (record { length = BOOT_REGION_LENGTH; address = BOOT_REGION_START })
+pub bert_back : (rest : List ℕ) → bert_of (bert_bytes ++ rest) ≡ Ok bert_view
 unfolding bert_of little zeros padded number_at
 bert_back rest = rw (bert_table rest) refl
 
@@ -47,7 +47,7 @@ unfolding little zeros padded number_at
 hest_table rest =
     table_read (codes "HEST") (hest_bytes ++ rest) least_hest 104 (omega (arith, length-append hest_bytes rest)) refl refl (omega arith) (omega (arith, length-append hest_bytes rest)) hest_sums
 
-pub hest_back : (rest : List ℕ) → hest_of (hest_bytes ++ rest) ≡ Ok (record { sources = 1 })
+pub hest_back : (rest : List ℕ) → hest_of (hest_bytes ++ rest) ≡ Ok hest_view
 unfolding hest_of little zeros padded number_at
 hest_back rest = rw (hest_table rest) refl
 

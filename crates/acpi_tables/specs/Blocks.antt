@@ -51,4 +51,5 @@ block_fields entries =
 
 -- a block with its entries
 abbrev pub block_bytes : List Entry → List ℕ
-block_bytes entries = laid_out block_header_length (block_fields entries) ++ flat_map entry_bytes entries
+block_bytes entries =
+    laid_out block_header_length (block_fields entries) ++ flat_map entry_bytes entries

@@ -58,11 +58,14 @@ source_start i = least_hest + source_length * i
 
 -- source i passes the table's end or has another type
 abbrev pub is_other_source : ℕ → List ℕ → ℕ → Bool
-is_other_source end b i = nat_lt end (source_start i + source_length) || not (number_in SOURCE_TYPE (source_start i) b == generic_source)
+is_other_source end b i =
+    nat_lt end (source_start i + source_length)
+    || not (number_in SOURCE_TYPE (source_start i) b == generic_source)
 
 -- the first of so many sources that passes the table's end or has another type is refused
 abbrev pub sources_in : ℕ → List ℕ → ℕ → Result (Unit {0}) TableRefused
-sources_in end b count = refused_at refused.Source (find (is_other_source end b) (range_with_len 0 count))
+sources_in end b count =
+    refused_at refused.Source (find (is_other_source end b) (range_with_len 0 count))
 
 -- a HEST, or the first rule that it breaks
 unfoldable pub hest_of : List ℕ → Result HestView TableRefused
@@ -75,7 +78,10 @@ hest_of b = do
 unfoldable pub bert_of : List ℕ → Result BertView TableRefused
 bert_of b = do
   end ← table_of (codes "BERT") bert_length b
-  Ok (record { length = number_in BOOT_ERROR_REGION_LENGTH 0 b; address = number_in BOOT_ERROR_REGION 0 b })
+  Ok (record {
+    length = number_in BOOT_ERROR_REGION_LENGTH 0 b;
+    address = number_in BOOT_ERROR_REGION 0 b;
+  })
 
 -- ---- status blocks
 
@@ -112,7 +118,8 @@ is_past end b i = nat_lt end (entry_end b (entry_start b i))
 abbrev pub entries_in : ℕ → List ℕ → ℕ → Result (ArrayVec SectionAt) TableRefused
 entries_in end b count = do
   inside ← refused_at refused.Entry (find (is_past end b) (range_with_len 0 count))
-  if entry_start b count == end then Ok (record { items = map (λ i. entry_section b (entry_start b i)) (range_with_len 0 count) })
+  if entry_start b count == end
+      then Ok (record { items = map (λ i. entry_section b (entry_start b i)) (range_with_len 0 count) })
       else Err refused.Length
 
 -- a status block, or the first rule that it breaks
@@ -123,4 +130,8 @@ block_of b =
     else if nat_lt 16 (entry_count b) then Err refused.Length
     else (do
       sections ← entries_in (block_header_length + block_data_length b) b (entry_count b)
-      Ok (record { status = number_in block.BLOCK_STATUS 0 b; severity = number_in block.ERROR_SEVERITY 0 b; entries = sections }))
+      Ok (record {
+        status = number_in block.BLOCK_STATUS 0 b;
+        severity = number_in block.ERROR_SEVERITY 0 b;
+        entries = sections;
+      }))

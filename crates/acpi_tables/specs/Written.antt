@@ -5,6 +5,17 @@ use Rattle.acpi_tables.specs.Blocks.{block_header_length, block_status, worst_se
 use Rattle.acpi_tables.specs.Entries.{entry_header_length, entry_length}
 use Rattle.acpi_tables.specs.declared.entries.Entry.{Entry}
 use Rattle.acpi_tables.specs.declared.block_reading.BlockView.{BlockView}
+use Rattle.acpi_tables.specs.declared.table_reading.HestView.{HestView}
+use Rattle.acpi_tables.specs.declared.table_reading.BertView.{BertView}
+use Rattle.ras_bits.specs.declared.map.TheConstants.{BOOT_REGION_LENGTH, BOOT_REGION_START}
+
+-- what the HEST says: it has one source
+abbrev pub hest_view : HestView
+hest_view = record { sources = 1 }
+
+-- what the BERT says: the boot error region of the map
+abbrev pub bert_view : BertView
+bert_view = record { length = BOOT_REGION_LENGTH; address = BOOT_REGION_START }
 
 -- the lengths and numbers of an entry are those of its type
 pub record IsEntry (e : Entry) : Type 0 where

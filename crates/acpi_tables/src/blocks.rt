@@ -37,11 +37,14 @@ const CORRECTED: u32 = 2;
 /// Replaces what is in `out` by the status block of these entries, five at most (ACPI, "Generic Error Status Block").
 ///
 /// A block without entries is 20 zero bytes. An entry of another severity than 0, 1 and 2 counts in the number of entries alone.
+/// `read_block` reads it back, whatever follows it, since its fields stand at their slots
+/// (`byte_fields::fields_stand_at_their_slots`).
 pub fn status_block(entries: &[Entry], out: &mut ArrayVec<u8, 2048>)
     requires { length entries.now ≤ 5 }
     ensures bytes { out.new.items ≡ block_bytes entries.now }
     ensures empty { entries.now ≡ [] → out.new.items ≡ zeros 20 }
-    ensures reads_back { (rest : List ℕ) → block_of (out.new.items ++ rest) ≡ Ok (block_view entries.now) }
+    ensures reads_back { (rest : List ℕ) →
+        block_of (out.new.items ++ rest) ≡ Ok (block_view entries.now) }
 {
     out.clear();
     put_u32(out, BLOCK_STATUS, status_of(entries));

@@ -62,7 +62,8 @@ pub(crate) fn put_header<const N: usize>(
 )
     requires first { array_vec_len table.old ≤ 0 }
     requires room { 36 ≤ N }
-    ensures items { table.new.items ≡ with_slots table.old.items (header_fields signature.now table_length checksum) }
+    ensures items { table.new.items
+        ≡ with_slots table.old.items (header_fields signature.now table_length checksum) }
     ensures len { array_vec_len table.new ≡ 36 }
 {
     put_bytes(table, SIGNATURE, signature);

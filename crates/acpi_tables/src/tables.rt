@@ -5,6 +5,7 @@ ghost use Rattle.ras_bits.specs.declared.map.TheConstants.{POLLED_POINTER};
 ghost use Rattle.acpi_tables.specs.TableHeader.{SumsToZero};
 ghost use Rattle.acpi_tables.specs.Tables.{bert_bytes, bert_with, hest_bytes, hest_with, status_address};
 ghost use Rattle.acpi_tables.specs.Reading.{bert_of, hest_of};
+ghost use Rattle.acpi_tables.specs.Written.{bert_view, hest_view};
 
 use crate::error_source::error_source;
 use crate::table_header::{checksum_over, put_header};
@@ -45,7 +46,7 @@ pub fn hest() -> [u8; 104]
     ensures bytes { result ≡ hest_bytes }
     ensures checked { SumsToZero result }
     ensures points { status_address result ≡ POLLED_POINTER }
-    ensures reads_back { (rest : List ℕ) → hest_of (result ++ rest) ≡ Ok (record { sources = 1 }) }
+    ensures reads_back { (rest : List ℕ) → hest_of (result ++ rest) ≡ Ok hest_view }
 {
     hest_with(checksum_over(&hest_with(0)))
 }
@@ -55,7 +56,7 @@ pub fn hest() -> [u8; 104]
 pub fn bert() -> [u8; 48]
     ensures bytes { result ≡ bert_bytes }
     ensures checked { SumsToZero result }
-    ensures reads_back { (rest : List ℕ) → bert_of (result ++ rest) ≡ Ok (record { length = BOOT_REGION_LENGTH; address = BOOT_REGION_START }) }
+    ensures reads_back { (rest : List ℕ) → bert_of (result ++ rest) ≡ Ok bert_view }
 {
     bert_with(checksum_over(&bert_with(0)))
 }

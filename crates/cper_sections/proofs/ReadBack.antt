@@ -1,4 +1,4 @@
--- What was written is read again, whatever follows it.
+-- What was written is read again, whatever follows it, since the fields of every format stand at their slots.
 use Rattle.std.proofs.Common.{◌≡◌, ℕ, ◌+◌, ◌<◌, ◌≤◌, ◌^◌, Bool, true, false, nat_eq, List, [], ◌∷◌, ◌++◌, length, Some, Ok, refl, ap, ◌∙◌, append_assoc, arith}
 use Rattle.std.specs.Prelude.{codes, slice_get}
 use Rattle.std.proofs.lemmas.Bool.{le-ltb, eq-eqb, ne_eqb, le-leb}
@@ -79,7 +79,7 @@ module _ (v : RecordView) (id : ℕ) (kind section rest : List ℕ) (kind_len : 
   descriptor_bytes k slot own is = bytes_back k slot own descriptor_lies is
 
   starts : signature_start bytes ≡ signature_start (codes "CPER")
-  starts = bytes_as_number 0 slots.SIGNATURE_START (codes "CPER") header refl
+  starts = bytes_as_number 0 slots.SIGNATURE_START (codes "CPER") header refl refl
 
   section_is : section_at bytes 128 ≡ record { kind = kind; start = 200; length = length section; severity = severity_of v.kept.class; fru = Some (fru_text v) }
   unfolding section_in

@@ -21,6 +21,7 @@ more_mark more = (if more then 43 else 32) ∷ []
 abbrev pub fru_text : RecordView → List ℕ
 fru_text v =
     codes "b" ++ digit v.kept.bank ++ codes "r" ++ digit v.kept.rec
-    ++ codes " c" ++ digit (v.cec / 10 ^ 4 % 10) ++ digit (v.cec / 10 ^ 3 % 10) ++ digit (v.cec / 10 ^ 2 % 10) ++ digit (v.cec / 10 % 10) ++ digit (v.cec % 10)
+    ++ codes " c" ++ digit (v.cec / 10 ^ 4 % 10) ++ digit (v.cec / 10 ^ 3 % 10)
+    ++ digit (v.cec / 10 ^ 2 % 10) ++ digit (v.cec / 10 % 10) ++ digit (v.cec % 10)
     ++ more_mark v.ceco ++ codes "s" ++ flag v.ce ++ flag v.ued ++ flag v.uec
     ++ codes " m" ++ flag v.mo ++ 0 ∷ []

@@ -20,7 +20,8 @@ scrub_error_type Critical = 14
 
 -- by the record: of reads, or of scrubs
 abbrev pub memory_error_type : RecordView → ℕ
-memory_error_type v = if v.kept.rec == 0 then demand_error_type v.kept.class else scrub_error_type v.kept.class
+memory_error_type v =
+    if v.kept.rec == 0 then demand_error_type v.kept.class else scrub_error_type v.kept.class
 
 -- what is valid of a memory's error: Physical Address (bit 1) and Memory Error Type (bit 14)
 abbrev pub memory_fields : RecordView → List Field

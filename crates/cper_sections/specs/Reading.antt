@@ -71,7 +71,8 @@ section_at b at = section_in descriptor.SECTION at (section_offset b at) b
 abbrev pub is_in_place : List ℕ → ℕ → Bool
 is_in_place b i =
     nat_le (descriptors_end b) (section_offset b (descriptor_start i))
-    && nat_le (section_offset b (descriptor_start i) + section_length b (descriptor_start i)) (record_length b)
+    && nat_le (section_offset b (descriptor_start i) + section_length b (descriptor_start i))
+    (record_length b)
 
 -- the numbers of the sections, counted from 0
 abbrev pub section_numbers : List ℕ → List ℕ

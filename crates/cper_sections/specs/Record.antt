@@ -63,12 +63,14 @@ descriptor_fields v section_type section_length =
 
 -- the 72 bytes of a descriptor
 abbrev pub section_descriptor : RecordView → List ℕ → ℕ → List ℕ
-section_descriptor v section_type section_length = laid_out descriptor_length (descriptor_fields v section_type section_length)
+section_descriptor v section_type section_length =
+    laid_out descriptor_length (descriptor_fields v section_type section_length)
 
 -- the record of a view whose one section has this type and these bytes
 abbrev pub record_of_section : RecordView → ℕ → List ℕ → List ℕ → List ℕ
 record_of_section v id section_type section =
-    record_header v id (section_start + length section) ++ (section_descriptor v section_type (length section) ++ section)
+    record_header v id (section_start + length section)
+    ++ (section_descriptor v section_type (length section) ++ section)
 
 -- the type of a view's section: a memory section for bank 0, else a processor section
 abbrev pub section_type : RecordView → List ℕ

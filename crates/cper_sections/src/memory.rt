@@ -52,6 +52,8 @@ const SCRUB_CORRECTED: u8 = 13;
 const SCRUB_UNCORRECTED: u8 = 14;
 
 /// The memory error section of a record of the memory's bank, bank 0: the physical address and the memory error type.
+///
+/// Each field stands at its slot, as `byte_fields::fields_stand_at_their_slots` says of every format.
 pub fn mem_section(v: &RecordView) -> [u8; 80]
     requires { v.now.kept.bank ≡ 0 }
     ensures bytes { result ≡ memory_section v.now }

@@ -96,6 +96,8 @@ const INSTRUCTION_EXECUTION: u8 = 3;
 
 /// The processor error section of a record of the caches' bank or of the hart's, bank 1 or 2. A cache tells its level and the
 /// word's address, a hart its own number, what it read the word for, the word's address and its pc.
+///
+/// Each field stands at its slot, as `byte_fields::fields_stand_at_their_slots` says of every format.
 pub fn proc_section(v: &RecordView) -> [u8; 192]
     requires some { 1 ≤ v.now.kept.bank }
     requires bank { v.now.kept.bank ≤ 2 }

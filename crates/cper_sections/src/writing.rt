@@ -18,11 +18,15 @@ use poison_mem::RecordView;
 /// Replaces what is in `out` by the record of a view (UEFI Appendix N, "Common Platform Error Record"): a header with the
 /// record id `id`, one section descriptor, and a memory section for bank 0, else a processor section: at most 392 bytes. The
 /// view is of a record that there is.
+///
+/// `read_record` reads it back, whatever follows it, since its fields stand at their slots
+/// (`byte_fields::fields_stand_at_their_slots`).
 pub fn write_record(v: &RecordView, id: u64, out: &mut ArrayVec<u8, 400>)
     requires { names_record v.now.kept.bank v.now.kept.rec ≡ true }
     ensures bytes { out.new.items ≡ record_bytes v.now id }
     ensures short { array_vec_len out.new ≤ 392 }
-    ensures reads_back { (rest : List ℕ) → record_of (out.new.items ++ rest) ≡ Ok (cper_of v.now id) }
+    ensures reads_back { (rest : List ℕ) →
+        record_of (out.new.items ++ rest) ≡ Ok (cper_of v.now id) }
 {
     if v.kept.bank == 0 {
         write_section(v, id, &MEMORY_SECTION, &mem_section(v), out);

@@ -20,11 +20,11 @@ use Rattle.ras_firmware.specs.Drain.{is_signalled, note_of, marked, emission, cl
 use Rattle.ras_firmware.specs.Records.{KeptState, with_all, first_views}
 use Rattle.ras_firmware.specs.declared.firmware.Firmware.{Firmware}
 use Rattle.ras_firmware.proofs.Cells.{RecordCell, cell_after, cell_run, new_cell}
-use Rattle.ras_firmware.specs.Pieces.{RecordAction, Log, Write, Stage, Mark, Clear}
+use Rattle.ras_firmware.specs.Pieces.{RecordAction, Log, Write, Stage, Mark, Clear, rest}
 use Rattle.ras_firmware.specs.Firmware.{FirmwareCall, LogEvent, SetNow, WriteControl, SetStaged, MarkAll, ClearAll, new_firmware, firmware_after, firmware_run}
-use Rattle.ras_firmware.specs.Sent.{after_calls, stopped, rounds, joined_rounds, sent, is_clear, clears, is_let_in, actions_of, pieces_of, those_of, piece_count}
+use Rattle.ras_firmware.specs.Sent.{after_calls, stopped, rounds, joined_rounds, sent, is_clear, clears, is_let_in, actions_of, pieces_at, pieces_of, those_of, piece_count}
 use Rattle.ras_firmware.specs.DrainLaws.{one_stays, log_stays, still_kinds, marked_at, noted_at, cleared_at, unnoted_at, controlled, plain_written}
-use Rattle.ras_firmware.proofs.Emitting.{all_emitted}
+use Rattle.ras_firmware.proofs.Emitting.{all_emitted, pieces_stand, rest_is}
 use Rattle.ras_firmware.proofs.Sent.{Named, NamesOne, each_at, each_placed, few_given, those_of-append, count_by_record, with_first}
 use Rattle.poison_mem.specs.RecordId.{bank_number, record_number, all_records}
 use Rattle.poison_mem.specs.declared.record_id.RecordId.{RecordId}
@@ -288,17 +288,42 @@ all_sent calls =
     ap (λ l. l ++ all_kept (after_calls calls).banks) (sym (run_sent calls new_along))
     ∙ ap (λ (f : Firmware). (along_run new_along calls).sent ++ all_kept f.banks) (sym (run_firmware calls new_along))
 
+-- over any calls a record goes as alone
+goes_alone : (p : RecordId) (calls : List FirmwareCall) → Agrees p (along_run new_along calls) (cell_run (new_cell first_control) (actions_of p 0 calls))
+goes_alone p calls = alone p calls new_along (new_cell first_control) 0 refl new_holds (record { state = new_state_at p; note = unnoted_at p; sent = refl })
+
+-- the clears emit the pieces so far
+pub clears_emitted : (p : RecordId) (calls : List FirmwareCall) → map Some (those_of p (joined_rounds (rounds new_firmware calls))) ≡ map rec_of (pieces_at p calls).pieces
+clears_emitted p calls =
+    ap (λ l. map Some (those_of p l)) (sym (run_sent calls new_along))
+    ∙ ap (map Some) (goes_alone p calls).sent
+    ∙ (pieces_stand first_control (actions_of p 0 calls)).emitted
+
+-- what a record shows at the stop
+shown_at_stop : (p : RecordId) (calls : List FirmwareCall) →
+    those_of p (all_kept (along_run new_along calls).firmware.banks) ≡ option_to_list (cell_run (new_cell first_control) (actions_of p 0 calls)).state.kept
+shown_at_stop p calls =
+    let w = along_run new_along calls in
+    let holds : AlongInvariant w = run_holds calls new_along new_holds in
+    each_at (λ q. (state_at w.firmware.banks q).kept) holds.kept p ∙ ap (λ (s : RecState). option_to_list s.kept) (goes_alone p calls).state
+
+-- the stop emits the last piece
+pub stop_emitted : (p : RecordId) (calls : List FirmwareCall) → map Some (those_of p (all_kept (after_calls calls).banks)) ≡ map rec_of (rest (pieces_at p calls).events)
+stop_emitted p calls =
+    let c = cell_run (new_cell first_control) (actions_of p 0 calls) in
+    ap (λ (f : Firmware). map Some (those_of p (all_kept f.banks))) (sym (run_firmware calls new_along))
+    ∙ ap (map Some) (shown_at_stop p calls)
+    ∙ rest_is c.state.kept (pieces_at p calls).events (pieces_stand first_control (actions_of p 0 calls)).kept
+
 -- the views of a record at the stop
 sent_of : (p : RecordId) (calls : List FirmwareCall) → (let c = cell_run (new_cell first_control) (actions_of p 0 calls) in those_of p (sent calls) ≡ c.emitted ++ option_to_list c.state.kept)
 sent_of p calls =
     let w = along_run new_along calls in
     let c = cell_run (new_cell first_control) (actions_of p 0 calls) in
-    let holds : AlongInvariant w = run_holds calls new_along new_holds in
-    let h : Agrees p w c = alone p calls new_along (new_cell first_control) 0 refl new_holds (record { state = new_state_at p; note = unnoted_at p; sent = refl }) in
     ap (those_of p) (all_sent calls)
     ∙ those_of-append p w.sent (all_kept w.firmware.banks)
-    ∙ ap (λ l. l ++ those_of p (all_kept w.firmware.banks)) h.sent
-    ∙ ap (λ l. c.emitted ++ l) (each_at (λ q. (state_at w.firmware.banks q).kept) holds.kept p ∙ ap (λ (s : RecState). option_to_list s.kept) h.state)
+    ∙ ap (λ l. l ++ those_of p (all_kept w.firmware.banks)) (goes_alone p calls).sent
+    ∙ ap (λ l. c.emitted ++ l) (shown_at_stop p calls)
 
 pub each_emitted : (p : RecordId) (calls : List FirmwareCall) → map Some (those_of p (sent calls)) ≡ map rec_of (pieces_of p calls)
 each_emitted p calls = ap (map Some) (sent_of p calls) ∙ all_emitted first_control (actions_of p 0 calls)

@@ -100,18 +100,21 @@ pub stands_run : (c : RecordCell) (p : Pieces) (actions : List RecordAction) →
 stands_run c p [] h = h
 stands_run c p (a ∷ actions) h = stands_run (cell_after c a) (pieces_after p a) actions (stands_after c p a h)
 
-rest_is : (k : Option RecordView) (events : List Event) → k ≡ rec_of events → map Some (option_to_list k) ≡ map rec_of (rest events)
+pub rest_is : (k : Option RecordView) (events : List Event) → k ≡ rec_of events → map Some (option_to_list k) ≡ map rec_of (rest events)
 rest_is None [] h = refl
 rest_is None (e ∷ es) h = cc
 rest_is (Some v) [] h = cc
 rest_is (Some v) (e ∷ es) h = ap (λ o. o ∷ []) h
+
+pub pieces_stand : (control : Control) (actions : List RecordAction) → StandsForPieces (cell_run (new_cell control) actions) (pieces_run (new_pieces control) actions)
+pieces_stand control actions = stands_run (new_cell control) (new_pieces control) actions (record { kept = refl; control = refl; emitted = refl; note = tt })
 
 pub all_emitted : (control : Control) (actions : List RecordAction) →
     map Some ((cell_run (new_cell control) actions).emitted ++ option_to_list (cell_run (new_cell control) actions).state.kept) ≡ map rec_of (all_pieces (pieces_run (new_pieces control) actions))
 all_emitted control actions =
     let c = cell_run (new_cell control) actions in
     let p = pieces_run (new_pieces control) actions in
-    let h : StandsForPieces c p = stands_run (new_cell control) (new_pieces control) actions (record { kept = refl; control = refl; emitted = refl; note = tt }) in
+    let h : StandsForPieces c p = pieces_stand control actions in
     map-append Some c.emitted (option_to_list c.state.kept)
     ∙ ap (λ l. l ++ map Some (option_to_list c.state.kept)) h.emitted
     ∙ ap (λ l. map rec_of p.pieces ++ l) (rest_is c.state.kept p.events h.kept)

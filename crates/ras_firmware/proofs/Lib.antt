@@ -8,3 +8,4 @@ pub mod Alone
 pub mod Shown
 pub mod Written
 pub mod Pointing
+pub mod Zeros

@@ -4,6 +4,7 @@ use Rattle.std.proofs.Math.Seq.{take-append_seam}
 use Rattle.acpi_tables.proofs.ReadBack.{bert_back, hest_back}
 use Rattle.acpi_tables.specs.Reading.{bert_of, hest_of}
 use Rattle.acpi_tables.specs.Tables.{hest_bytes, bert_bytes, status_address}
+use Rattle.acpi_tables.specs.Written.{bert_view, hest_view}
 use Rattle.byte_fields.specs.Fields.{number_field, number_in, little, zeros, padded}
 use Rattle.byte_fields.specs.FieldsLaws.{padded_before, number_back, length_laid_out}
 use Rattle.ras_bits.specs.Fields.{number_at}
@@ -45,10 +46,10 @@ address_read rest = refl
 pub hest_points : (m : FirmMemoryState) → status_address (memory_bytes m) ≡ POLLED_POINTER
 hest_points m = ap status_address (in_order m ∙ hest_first (bert_piece ++ after_bert m)) ∙ address_read _
 
-pub hest_read : (m : FirmMemoryState) → hest_of (memory_bytes m) ≡ Ok (record { sources = 1 })
+pub hest_read : (m : FirmMemoryState) → hest_of (memory_bytes m) ≡ Ok hest_view
 hest_read m = ap hest_of (in_order m ∙ hest_first (bert_piece ++ after_bert m)) ∙ hest_back _
 
-pub bert_points : (m : FirmMemoryState) → bert_of (drop (BERT_START - FIRMWARE_START) (memory_bytes m)) ≡ Ok (record { length = BOOT_REGION_LENGTH; address = BOOT_REGION_START })
+pub bert_points : (m : FirmMemoryState) → bert_of (drop (BERT_START - FIRMWARE_START) (memory_bytes m)) ≡ Ok bert_view
 bert_points m =
     ap bert_of (behind (BERT_START - FIRMWARE_START) hest_piece (bert_piece ++ after_bert m) (memory_bytes m) (in_order m) length_hest ∙ bert_first (after_bert m))
     ∙ bert_back _

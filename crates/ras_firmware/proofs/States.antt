@@ -17,7 +17,7 @@ use Rattle.reri_bank.specs.BanksState.{BanksState}
 use Rattle.reri_bank.specs.State.{state_marked}
 use Rattle.reri_bank.specs.StateAt.{state_at}
 use Rattle.reri_bank.specs.declared.state.RecState.{RecState}
-use Rattle.ras_firmware.specs.Drain.{is_signalled, note_of, marked, emission, cleared, with_state, each_record}
+use Rattle.ras_firmware.specs.Drain.{is_signalled, note_of, marked, emission, cleared, with_state}
 use Rattle.ras_firmware.proofs.Views.{all-append}
 use Rattle.poison_mem.specs.RecordView.{IsListedView}
 use Rattle.ras_firmware.specs.Notes.{Notes, note_at, index_of, IsNote, AreNotes}
@@ -109,9 +109,6 @@ pub changed_more : (change : RecordId → RecState → RecState) (i : ℕ) (b c 
     → d ≡ changed_first change (i + 1) b
 changed_more change i b c d id h is at step =
     step ∙ ap (λ e. with_state e id (change id)) at ∙ ap (λ p. with_state (changed_first change i b) p (change p)) is ∙ sym (fold_more (λ c id. with_state c id (change id)) b all_records i Read h)
-
-pub changed_all : (change : RecordId → RecState → RecState) (b : BanksState) → changed_first change 5 b ≡ each_record change b
-changed_all change b = refl
 
 -- ---- notes
 

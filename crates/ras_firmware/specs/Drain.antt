@@ -53,9 +53,9 @@ with_state b id change = with_record_of b (bank_number id) (record_number id) ch
 -- the banks with each record changed by its own change
 abbrev pub each_record : (RecordId → RecState → RecState) → BanksState → BanksState
 each_record change b = record {
-  memory = record { kind = b.memory.kind; first = change Read b.memory.first; second = change Scrub b.memory.second };
-  caches = record { kind = b.caches.kind; first = change L1 b.caches.first; second = change L2 b.caches.second };
-  hart = record { kind = b.hart.kind; first = change Hart b.hart.first; second = b.hart.second };
+  memory = record b.memory { first = change Read b.memory.first; second = change Scrub b.memory.second };
+  caches = record b.caches { first = change L1 b.caches.first; second = change L2 b.caches.second };
+  hart = record b.hart { first = change Hart b.hart.first };
   step = b.step;
 }
 

@@ -27,11 +27,17 @@ pub data FirmwareCall : Type 0 where
 
 -- new banks, no notes, nothing emitted, and an empty memory
 abbrev pub new_firmware : Firmware
-new_firmware = record { banks = new_banks; drain = no_notes; records = no_records; memory = new_memory }
+new_firmware = record {
+  banks = new_banks;
+  drain = no_notes;
+  records = no_records;
+  memory = new_memory;
+}
 
 -- the banks after a write of a control register
 abbrev pub control_written : BanksState → RecordId → ℕ → BanksState
-control_written b id value = banks_written b (bank_number id) (CONTROL + STRIDE * record_number id) (value % 2 ^ 32)
+control_written b id value =
+    banks_written b (bank_number id) (CONTROL + STRIDE * record_number id) (value % 2 ^ 32)
 
 -- what a call emits: a clear alone does
 abbrev pub emitted_by : Firmware → FirmwareCall → List RecordView
@@ -47,7 +53,8 @@ abbrev pub firmware_after : Firmware → FirmwareCall → Firmware
 firmware_after f (LogEvent e) = record f { banks = banks_logged f.banks e }
 firmware_after f (SetNow step) = record f { banks = with_now f.banks step }
 firmware_after f (WriteControl id value) = record f { banks = control_written f.banks id value }
-firmware_after f (SetStaged id staged) = record f { banks = banks_staged f.banks (bank_number id) (record_number id) staged }
+firmware_after f (SetStaged id staged) =
+    record f { banks = banks_staged f.banks (bank_number id) (record_number id) staged }
 firmware_after f MarkAll = record f { banks = marked_banks f.banks; drain = notes_of f.banks }
 firmware_after f ClearAll = record {
   banks = cleared_banks f.drain f.banks;
@@ -62,9 +69,7 @@ firmware_run f calls = fold firmware_after f calls
 
 -- at the stop every valid record is emitted, and a fatal one is shown in the boot error region
 abbrev pub firmware_stopped : Option (ℕ × ℕ) → Firmware → Firmware
-firmware_stopped fatal f = record {
-  banks = f.banks;
-  drain = f.drain;
+firmware_stopped fatal f = record f {
   records = with_all f.records (all_kept f.banks);
   memory = with_region f.memory (fatal_view f.banks fatal);
 }

@@ -30,12 +30,12 @@ polled_after before (v ∷ vs) = v ∷ vs
 
 -- the memory after a clear that emits these views
 abbrev pub with_polled : FirmMemoryState → List RecordView → FirmMemoryState
-with_polled m views = record { polled = polled_after m.polled views; region = m.region }
+with_polled m views = record m { polled = polled_after m.polled views }
 
 -- the memory after a stop: a fatal record is shown in the region, and without one that stays
 abbrev pub with_region : FirmMemoryState → Option RecordView → FirmMemoryState
 with_region m None = m
-with_region m (Some v) = record { polled = m.polled; region = Some v }
+with_region m (Some v) = record m { region = Some v }
 
 -- ---- bytes
 
@@ -62,7 +62,9 @@ bert_piece = padded (POLLED_POINTER - BERT_START) bert_bytes
 
 -- the polled block's address, and zeros up to the boot error region
 unfoldable pub pointer_piece : List ℕ
-pointer_piece = laid_out (BOOT_REGION_START - POLLED_POINTER) (number_field POLLED_BLOCK_ADDRESS POLLED_BLOCK_START ∷ [])
+pointer_piece =
+    laid_out (BOOT_REGION_START - POLLED_POINTER)
+    (number_field POLLED_BLOCK_ADDRESS POLLED_BLOCK_START ∷ [])
 
 -- the boot error region: the block of the fatal view, and zeros
 unfoldable pub region_piece : Option RecordView → List ℕ
@@ -70,7 +72,8 @@ region_piece region = padded BOOT_REGION_LENGTH (views_block (option_to_list reg
 
 -- the polled block, and zeros up to the memory's end
 unfoldable pub polled_piece : List RecordView → List ℕ
-polled_piece polled = padded (FIRMWARE_LENGTH - (POLLED_BLOCK_START - FIRMWARE_START)) (views_block polled)
+polled_piece polled =
+    padded (FIRMWARE_LENGTH - (POLLED_BLOCK_START - FIRMWARE_START)) (views_block polled)
 
 -- what stands before the polled block
 abbrev pub memory_front : Option RecordView → List ℕ

@@ -49,4 +49,5 @@ pub record IsNote (bank rec : ℕ) (v : RecordView) : Type 0 where
 -- what holds of notes: there is a place for each record, and each note is one of its record
 pub record AreNotes (notes : Notes) : Type 0 where
   pub count : length notes ≡ length all_records
-  pub each : (id : RecordId) → IfSome (note_at notes id) (IsNote (bank_number id) (record_number id))
+  pub each : (id : RecordId)
+      → IfSome (note_at notes id) (IsNote (bank_number id) (record_number id))

@@ -36,15 +36,15 @@ is_unchanged (Some n) events = n == length events
 -- logging adds an event where it is enabled; a mark notes the number of events of a signalled record, and forgets an older
 -- note; a clear ends a piece where that number is unchanged
 abbrev pub pieces_after : Pieces → RecordAction → Pieces
-pieces_after p (Log e) = record { pieces = p.pieces; events = if p.control.logging then p.events ++ e ∷ [] else p.events; noted = p.noted; control = p.control }
-pieces_after p (Write control) = record { pieces = p.pieces; events = p.events; noted = p.noted; control = control }
+pieces_after p (Log e) = record p { events = if p.control.logging then p.events ++ e ∷ [] else p.events }
+pieces_after p (Write control) = record p { control = control }
 pieces_after p (Stage staged) = p
-pieces_after p Mark = record { pieces = p.pieces; events = p.events; noted = if is_signalled (rec_of p.events) p.control then Some (length p.events) else None; control = p.control }
-pieces_after p Clear = record {
+pieces_after p Mark =
+    record p { noted = if is_signalled (rec_of p.events) p.control then Some (length p.events) else None }
+pieces_after p Clear = record p {
   pieces = if is_unchanged p.noted p.events then p.pieces ++ p.events ∷ [] else p.pieces;
   events = if is_unchanged p.noted p.events then [] else p.events;
   noted = None;
-  control = p.control;
 }
 
 -- the pieces after all that happens to a record
@@ -72,7 +72,8 @@ IsNonempty (e ∷ es) = Unit {0}
 -- the events that were logged while logging was enabled
 abbrev pub let_in : Control → List RecordAction → List Event
 let_in control [] = []
-let_in control (Log e ∷ actions) = if control.logging then e ∷ let_in control actions else let_in control actions
+let_in control (Log e ∷ actions) =
+    if control.logging then e ∷ let_in control actions else let_in control actions
 let_in control (Write c ∷ actions) = let_in c actions
 let_in control (Stage staged ∷ actions) = let_in control actions
 let_in control (Mark ∷ actions) = let_in control actions

@@ -23,8 +23,8 @@ no_records = record { views = []; left_out = 0 }
 -- one view more is kept while there is room, and else counted; the count stays at its last value
 abbrev pub with_view : KeptState → RecordView → KeptState
 with_view r view =
-    if nat_lt (length r.views) MOST_RECORDS then record { views = r.views ++ view ∷ []; left_out = r.left_out }
-    else record { views = r.views; left_out = min (r.left_out + 1) (2 ^ 64 - 1) }
+    if nat_lt (length r.views) MOST_RECORDS then record r { views = r.views ++ view ∷ [] }
+    else record r { left_out = min (r.left_out + 1) (2 ^ 64 - 1) }
 
 -- more views, in order
 abbrev pub with_all : KeptState → List RecordView → KeptState
@@ -32,4 +32,7 @@ with_all r views = fold with_view r views
 
 -- as many first views as are kept, and the number of the others
 abbrev pub first_views : List RecordView → KeptState
-first_views views = record { views = take MOST_RECORDS views; left_out = min (length views - MOST_RECORDS) (2 ^ 64 - 1) }
+first_views views = record {
+  views = take MOST_RECORDS views;
+  left_out = min (length views - MOST_RECORDS) (2 ^ 64 - 1);
+}

@@ -11,7 +11,7 @@ use Rattle.reri_bank.specs.State.{control_after}
 use Rattle.reri_bank.specs.StateAt.{is_record}
 use Rattle.ras_firmware.specs.Drain.{all_kept}
 use Rattle.ras_firmware.specs.Firmware.{FirmwareCall, LogEvent, SetNow, WriteControl, SetStaged, MarkAll, ClearAll, new_firmware, firmware_after, firmware_run, firmware_stopped, emitted_by}
-use Rattle.ras_firmware.specs.Pieces.{RecordAction, Log, Write, Stage, Mark, Clear, new_pieces, pieces_run, all_pieces, let_in}
+use Rattle.ras_firmware.specs.Pieces.{Pieces, RecordAction, Log, Write, Stage, Mark, Clear, new_pieces, pieces_run, all_pieces, let_in}
 use Rattle.ras_firmware.specs.declared.firmware.Firmware.{Firmware}
 
 -- new firmware after these calls, and stopped
@@ -77,19 +77,28 @@ is_let_in id e = not (nat_lt 3 e.pri) && is_record e.bank e.rec id
 -- what calls do to a record, from a step on
 abbrev pub actions_of : RecordId → ℕ → List FirmwareCall → List RecordAction
 actions_of id step [] = []
-actions_of id step (LogEvent e ∷ calls) = if is_let_in id e then Log (stamped step e) ∷ actions_of id step calls else actions_of id step calls
+actions_of id step (LogEvent e ∷ calls) =
+    if is_let_in id e then Log (stamped step e) ∷ actions_of id step calls
+    else actions_of id step calls
 actions_of id step (SetNow next ∷ calls) = actions_of id next calls
 actions_of id step (WriteControl other value ∷ calls) =
-    if is_record (bank_number other) (record_number other) id then Write (control_after (bank_number other == 2) (value % 2 ^ 32)) ∷ actions_of id step calls
+    if is_record (bank_number other) (record_number other) id
+    then Write (control_after (bank_number other == 2) (value % 2 ^ 32)) ∷ actions_of id step calls
     else actions_of id step calls
 actions_of id step (SetStaged other staged ∷ calls) =
-    if is_record (bank_number other) (record_number other) id then Stage staged ∷ actions_of id step calls else actions_of id step calls
+    if is_record (bank_number other) (record_number other) id
+    then Stage staged ∷ actions_of id step calls
+    else actions_of id step calls
 actions_of id step (MarkAll ∷ calls) = Mark ∷ actions_of id step calls
 actions_of id step (ClearAll ∷ calls) = Clear ∷ actions_of id step calls
 
+-- a record's pieces so far, and its events since
+abbrev pub pieces_at : RecordId → List FirmwareCall → Pieces
+pieces_at id calls = pieces_run (new_pieces first_control) (actions_of id 0 calls)
+
 -- the pieces of a record, the last one at the stop among them
 abbrev pub pieces_of : RecordId → List FirmwareCall → List (List Event)
-pieces_of id calls = all_pieces (pieces_run (new_pieces first_control) (actions_of id 0 calls))
+pieces_of id calls = all_pieces (pieces_at id calls)
 
 -- the events that a record let in
 abbrev pub events_of : RecordId → List FirmwareCall → List Event

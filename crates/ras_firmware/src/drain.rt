@@ -55,7 +55,8 @@ fn is_signalled(kept: Option<RecordView>, control: Control) -> bool
 /// The control register of a record, whose `sinv` and `srdp` read 0.
 fn control_register(bank: &Bank, rec: u8) -> u64
     requires { rec < record_count bank.now.kind }
-    ensures { result ≡ control_word (record_at bank.now rec).control (eid_of (record_at bank.now rec).staged) }
+    ensures { result ≡ control_word (record_at bank.now rec).control
+        (eid_of (record_at bank.now rec).staged) }
 {
     match bank.read_reg(control_offset(rec)) {
         Some(value) => value,

@@ -82,7 +82,8 @@ impl FirmMemory {
         ensures count { length result.now ≡ FIRMWARE_LENGTH }
         ensures region { take BOOT_REGION_LENGTH (drop (BOOT_REGION_START - FIRMWARE_START) result.now)
             ≡ region_piece self.now.region }
-        ensures polled { drop (POLLED_BLOCK_START - FIRMWARE_START) result.now ≡ polled_piece self.now.polled }
+        ensures polled { drop (POLLED_BLOCK_START - FIRMWARE_START) result.now
+            ≡ polled_piece self.now.polled }
     {
         let _ = &self.region;
         self.bytes.as_slice()

@@ -8,7 +8,7 @@ use Rattle.poison_mem.specs.declared.event.RecordView.{RecordView}
 use Rattle.reri_bank.specs.declared.state.RecState.{RecState}
 use Rattle.reri_bank.specs.declared.record.TheConstants.{MOST_COUNTED}
 use Rattle.reri_bank.specs.Record.{rank, ranks_above, kept_with, kept_of, of_class, view_of_events, rec_of}
-use Rattle.reri_bank.specs.Views.{IsReachable}
+use Rattle.reri_bank.specs.Views.{IsReachable, CountFits, LeadTo}
 use Rattle.reri_bank.specs.State.{IsRecordHeld, RecordLists, shown}
 use Rattle.reri_bank.proofs.Shown.{rank_of_flag, some_counted}
 use Rattle.reri_bank.specs.RecordLaws.{same_view, of_class-nil, of_class-cons}
@@ -161,10 +161,16 @@ counts_at s v m d is more = counts_made_at s 0 v.kept m d (all_corrected v) is �
     none false h = omega arith
 
 abbrev Leads : RecordView → Type 0
-Leads v = (es : List Event) × (AllByRecursion (λ (e : Event). e.pri < 4) es × (rec_of es ≡ Some v))
+Leads v = (es : List Event) × LeadTo es v
 
 leads_by : (v : RecordView) (m d n : ℕ) → IsReachable v → (1 ≤ d → 1 ≤ rank v.kept.class) → Counts v (events_made v.kept m d n) → Leads v
-leads_by v m d n h room counts = (events_made v.kept m d n, (fit_made v.kept m d n h.sound.pri_fits, by_counts v (events_made v.kept m d n) counts (kept_made v.kept m d n room)))
+leads_by v m d n h room counts = (
+  events_made v.kept m d n,
+  record {
+    pris_fit = fit_made v.kept m d n h.sound.pri_fits;
+    shows = by_counts v (events_made v.kept m d n) counts (kept_made v.kept m d n room);
+  },
+)
 
 reached_by : (c : Class) (v : RecordView) → v.kept.class ≡ c → v.cec < 2 ^ 16 → IsReachable v → Leads v
 reached_by Corrected v is fits h =
@@ -212,11 +218,11 @@ reached_by Critical v is fits h =
       ceco = ap (nat_lt MOST_COUNTED) n0 ∙ ceco_is v.ceco v.cec fits;
     })
 
-pub reached : (v : RecordView) → v.cec < 2 ^ 16 → IsReachable v → (es : List Event) × (AllByRecursion (λ (e : Event). e.pri < 4) es × (rec_of es ≡ Some v))
+pub reached : (v : RecordView) → CountFits (Some v) → IsReachable v → Leads v
 reached v fits h = reached_by v.kept.class v refl fits h
 
 -- each state of a record stands for lists
-pub held_stands : (bank rec : ℕ) (s : RecState) → IsRecordHeld bank rec s → IfSome s.kept (λ v. v.cec < 2 ^ 16) → (r : RecordLists) × (s ≡ shown r)
+pub held_stands : (bank rec : ℕ) (s : RecState) → IsRecordHeld bank rec s → CountFits s.kept → (r : RecordLists) × (s ≡ shown r)
 held_stands bank rec s h fits = by_kept s.kept refl h.reachable fits
   where
     listed : (k : Option RecordView) (es : List Event) → s.kept ≡ k → rec_of es ≡ k → (r : RecordLists) × (s ≡ shown r)
@@ -225,6 +231,6 @@ held_stands bank rec s h fits = by_kept s.kept refl h.reachable fits
       ap (λ (o : Option RecordView). let t : RecState = record { kept = o; rdip = s.rdip; control = s.control; staged = s.staged } in t) (is ∙ sym led),
     )
 
-    by_kept : (k : Option RecordView) → s.kept ≡ k → IfSome k IsReachable → IfSome k (λ v. v.cec < 2 ^ 16) → (r : RecordLists) × (s ≡ shown r)
+    by_kept : (k : Option RecordView) → s.kept ≡ k → IfSome k IsReachable → CountFits k → (r : RecordLists) × (s ≡ shown r)
     by_kept None is reachable below = listed None [] is refl
-    by_kept (Some v) is reachable below = let led = reached v below reachable in listed (Some v) led.0 is led.1.1
+    by_kept (Some v) is reachable below = let led = reached v below reachable in listed (Some v) led.0 is led.1.shows

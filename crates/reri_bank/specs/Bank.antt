@@ -63,7 +63,8 @@ record_at b rec = if rec == 0 then b.first else b.second
 
 -- a bank with one record changed
 abbrev pub with_record : {R : Type 0} → BankOf R → ℕ → (R → R) → BankOf R
-with_record b rec change = if rec == 0 then record { kind = b.kind; first = change b.first; second = b.second } else record { kind = b.kind; first = b.first; second = change b.second }
+with_record b rec change =
+    if rec == 0 then record b { first = change b.first } else record b { second = change b.second }
 
 -- an event is logged to the record that it names
 abbrev pub bank_logged_by : {R : Type 0} → (R → Event → R) → BankOf R → Event → BankOf R
@@ -71,11 +72,11 @@ bank_logged_by log b e = with_record b e.rec (λ r. log r e)
 
 -- staging, in place of what was staged
 abbrev pub state_staged : Option Staged → RecState → RecState
-state_staged staged s = record { kept = s.kept; rdip = s.rdip; control = s.control; staged = staged }
+state_staged staged s = record s { staged = staged }
 
 -- the same of the lists
 abbrev pub lists_staged : Option Staged → RecordLists → RecordLists
-lists_staged staged r = record { events = r.events; rdip = r.rdip; control = r.control; staged = staged }
+lists_staged staged r = record r { staged = staged }
 
 -- which record's control register stands at an offset
 abbrev pub is_control_of : BankKind → ℕ → Bool
@@ -85,7 +86,8 @@ is_control_of kind offset = offset == CONTROL || (offset == CONTROL + STRIDE && 
 abbrev pub bank_written_by : {R : Type 0} → (Bool → R → ℕ → R) → BankOf R → ℕ → ℕ → BankOf R
 bank_written_by write b offset v =
     if offset == CONTROL then with_record b 0 (λ r. write (is_hart b.kind) r v)
-    else if offset == CONTROL + STRIDE && not (is_hart b.kind) then with_record b 1 (λ r. write (is_hart b.kind) r v)
+    else if offset == CONTROL + STRIDE && not (is_hart b.kind)
+    then with_record b 1 (λ r. write (is_hart b.kind) r v)
     else b
 
 -- the same of the live registers
@@ -103,7 +105,9 @@ bank_info kind = kind_number kind + RECORDS_UNIT * record_count kind + VERSION
 
 -- bit 0 is 1, and bit i + 1 is set where record i is valid
 abbrev pub valid_summary : BankState → ℕ
-valid_summary b = 1 + 2 * from_bool (is_some b.first.kept) + 4 * from_bool (not (is_hart b.kind) && is_some b.second.kept)
+valid_summary b =
+    1 + 2 * from_bool (is_some b.first.kept)
+    + 4 * from_bool (not (is_hart b.kind) && is_some b.second.kept)
 
 -- a part of the kept event, 0 of an empty record
 abbrev pub of_kept : (Event → ℕ) → Option RecordView → ℕ
@@ -132,6 +136,9 @@ register_at b offset =
     if offset == BANK_ID then Some 0
     else if offset == BANK_INFO then Some (bank_info b.kind)
     else if offset == VALID_SUMMARY then Some (valid_summary b)
-    else if nat_le CONTROL offset && nat_lt offset (CONTROL + STRIDE) then record_register b.first (offset - CONTROL)
-    else if nat_le (CONTROL + STRIDE) offset && nat_lt offset (CONTROL + 2 * STRIDE) && not (is_hart b.kind) then record_register b.second (offset - (CONTROL + STRIDE))
+    else if nat_le CONTROL offset && nat_lt offset (CONTROL + STRIDE)
+    then record_register b.first (offset - CONTROL)
+    else if nat_le (CONTROL + STRIDE) offset && nat_lt offset (CONTROL + 2 * STRIDE)
+    && not (is_hart b.kind)
+    then record_register b.second (offset - (CONTROL + STRIDE))
     else None

@@ -17,7 +17,12 @@ BanksLists = BanksOf RecordLists
 
 -- the banks with something else for each record
 abbrev pub map_banks : {R S : Type 0} → (R → S) → BanksOf R → BanksOf S
-map_banks f b = record { memory = map_bank f b.memory; caches = map_bank f b.caches; hart = map_bank f b.hart; step = b.step }
+map_banks f b = record {
+  memory = map_bank f b.memory;
+  caches = map_bank f b.caches;
+  hart = map_bank f b.hart;
+  step = b.step;
+}
 
 -- the banks stand for lists where they are what these show
 abbrev pub banks_shown : BanksLists → BanksState
@@ -25,7 +30,12 @@ banks_shown b = map_banks shown b
 
 -- three banks with the same for each record, and step 0
 abbrev pub banks_of : {R : Type 0} → R → BanksOf R
-banks_of r = record { memory = bank_of r Memory; caches = bank_of r Caches; hart = bank_of r Hart; step = 0 }
+banks_of r = record {
+  memory = bank_of r Memory;
+  caches = bank_of r Caches;
+  hart = bank_of r Hart;
+  step = 0;
+}
 
 -- three new banks, and step 0
 abbrev pub new_banks : BanksState
@@ -33,7 +43,7 @@ new_banks = banks_of new_state
 
 -- another step is put into events
 abbrev pub with_now : {R : Type 0} → BanksOf R → ℕ → BanksOf R
-with_now b now = record { memory = b.memory; caches = b.caches; hart = b.hart; step = now }
+with_now b now = record b { step = now }
 
 -- how many records a bank has
 abbrev pub records_of : ℕ → ℕ
@@ -46,9 +56,9 @@ bank_at b bank = if bank == 0 then b.memory else if bank == 1 then b.caches else
 -- the banks with one changed
 abbrev pub with_bank : {R : Type 0} → BanksOf R → ℕ → (BankOf R → BankOf R) → BanksOf R
 with_bank b bank change =
-    if bank == 0 then record { memory = change b.memory; caches = b.caches; hart = b.hart; step = b.step }
-    else if bank == 1 then record { memory = b.memory; caches = change b.caches; hart = b.hart; step = b.step }
-    else record { memory = b.memory; caches = b.caches; hart = change b.hart; step = b.step }
+    if bank == 0 then record b { memory = change b.memory }
+    else if bank == 1 then record b { caches = change b.caches }
+    else record b { hart = change b.hart }
 
 -- the banks with one record changed
 abbrev pub with_record_of : {R : Type 0} → BanksOf R → ℕ → ℕ → (R → R) → BanksOf R
@@ -56,14 +66,16 @@ with_record_of b bank rec change = with_bank b bank (λ k. with_record k rec cha
 
 -- an event with the step
 abbrev pub stamped : ℕ → Event → Event
-stamped now e = record { bank = e.bank; rec = e.rec; class = e.class; pri = e.pri; code = e.code; scrub = e.scrub; addr = e.addr; info = e.info; suppl = e.suppl; at = now }
+stamped now e = record e { at = now }
 
 -- logging: the event gets the step and goes to the record that it names; one that names none, or whose priority is above 3,
 -- changes nothing
 abbrev pub banks_logged_by : {R : Type 0} → (R → Event → R) → BanksOf R → Event → BanksOf R
 banks_logged_by log b e =
     if nat_lt 3 e.pri then b
-    else if names_record e.bank e.rec then with_record_of b e.bank e.rec (λ r. log r (stamped b.step e)) else b
+    else if names_record e.bank e.rec
+    then with_record_of b e.bank e.rec (λ r. log r (stamped b.step e))
+    else b
 
 -- the same of the live registers
 abbrev pub banks_logged : BanksState → Event → BanksState

@@ -5,7 +5,8 @@ use Rattle.reri_bank.specs.declared.layout.TheConstants.{ELSE, CECE, CES, UEDS, 
 
 -- the word that a control register is made of
 abbrev pub control_sum : ℕ → ℕ → ℕ → ℕ → ℕ → ℕ → ℕ
-control_sum a b c d e n = 2 ^ ELSE * a + 2 ^ CECE * b + 2 ^ CES * c + 2 ^ UEDS * d + 2 ^ UECS * e + 2 ^ EID * n
+control_sum a b c d e n =
+    2 ^ ELSE * a + 2 ^ CECE * b + 2 ^ CES * c + 2 ^ UEDS * d + 2 ^ UECS * e + 2 ^ EID * n
 
 -- what its fields are, with `sinv` and `srdp`
 pub record ControlFields (w a b c d e x y : ℕ) : Type 0 where

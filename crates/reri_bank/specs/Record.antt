@@ -15,7 +15,8 @@ rank Critical = 2
 
 -- a greater class, or the same class and a greater priority
 abbrev pub ranks_above : Event → Event → Bool
-ranks_above e k = nat_lt (rank k.class) (rank e.class) || (rank e.class == rank k.class && nat_lt k.pri e.pri)
+ranks_above e k =
+    nat_lt (rank k.class) (rank e.class) || (rank e.class == rank k.class && nat_lt k.pri e.pri)
 
 -- the first of the greatest: an event stands before what is kept of those after it
 abbrev pub kept_with : Event → Option Event → Event
@@ -49,7 +50,9 @@ rec_of es = option_map (view_of_events es) (kept_of es)
 
 -- by one event more: two events of the kept class have come
 abbrev pub more_after : RecordView → Class → Bool
-more_after v class = if nat_lt (rank v.kept.class) (rank class) then false else v.mo || rank class == rank v.kept.class
+more_after v class =
+    if nat_lt (rank v.kept.class) (rank class) then false
+    else v.mo || rank class == rank v.kept.class
 
 -- the class is CE
 abbrev pub is_corrected : Class → Bool

@@ -3,9 +3,9 @@
 ghost use Rattle.std.specs.Prelude.{◌≡◌, ◌<◌, ◌≤◌, ◌==◌, ℕ, None, IfSome};
 ghost use Rattle.poison_mem.specs.declared.event.Event.{Event};
 ghost use Rattle.reri_bank.specs.Views.{IsReachable, IsOf, PriFits};
-ghost use Rattle.reri_bank.specs.State.{IsRecordHeld, RecordLists, shown, state_logged, lists_logged, lists_written};
+ghost use Rattle.reri_bank.specs.State.{IsRecordHeld, StandsAfter, RecordLists, shown, state_logged, lists_logged, lists_written};
 ghost use Rattle.reri_bank.specs.BankState.{kind_number, AreHeld};
-ghost use Rattle.reri_bank.specs.Bank.{is_hart, with_record, BankLists, bank_shown, bank_of, no_events, record_count, record_at, bank_logged_by, new_state, new_bank, bank_written, bank_written_by, is_control_of, state_staged, lists_staged, eid_of, bank_info, kept_register, record_register, register_at, valid_summary};
+ghost use Rattle.reri_bank.specs.Bank.{is_hart, with_record, bank_shown, bank_of, no_events, record_count, record_at, bank_logged_by, new_state, new_bank, bank_written, bank_written_by, is_control_of, state_staged, lists_staged, eid_of, bank_info, kept_register, record_register, register_at, valid_summary};
 
 use crate::layout::{
     ADDR, BANK_ID, BANK_INFO, CONTROL, Control, INFO, STATUS, STRIDE, SUPPL, TIMESTAMP,
@@ -75,7 +75,8 @@ impl Model for Bank {
 
     ghost view = { λ b. record { kind = b.kind; first = b.first; second = b.second } };
 
-    ghost invariant = { λ b. IsRecordHeld (kind_number b.kind) 0 b.first × IsRecordHeld (kind_number b.kind) 1 b.second };
+    ghost invariant = { λ b. IsRecordHeld (kind_number b.kind) 0 b.first
+        × IsRecordHeld (kind_number b.kind) 1 b.second };
 }
 
 /// A record's state at first.
@@ -172,7 +173,8 @@ impl Bank {
         requires rec { e.rec < record_count self.old.kind }
         requires pri { e.pri < 4 }
         ensures state { self.new ≡ bank_logged_by state_logged self.old e }
-        ensures lists { (b : BankLists) → self.old ≡ bank_shown b → self.new ≡ bank_shown (bank_logged_by lists_logged b e) }
+        ensures lists { StandsAfter bank_shown (λ b. bank_logged_by lists_logged b e)
+            self.old self.new }
     {
         if e.rec == 0 {
             self.first.log(e);
@@ -212,7 +214,8 @@ impl Bank {
     pub fn write_reg(&mut self, offset: u16, v: u64) -> bool
         ensures written { result ≡ is_control_of self.old.kind offset }
         ensures state { self.new ≡ bank_written self.old offset v }
-        ensures lists { (b : BankLists) → self.old ≡ bank_shown b → self.new ≡ bank_shown (bank_written_by lists_written b offset v) }
+        ensures lists { StandsAfter bank_shown (λ b. bank_written_by lists_written b offset v)
+            self.old self.new }
     {
         let always_logs = self.kind == BankKind::Hart;
         if offset == CONTROL {
@@ -252,7 +255,8 @@ impl Bank {
         requires left { IfSome s (λ t. 1 ≤ t.left) }
         requires hart { kind_number self.old.kind ≡ 2 → s ≡ None }
         ensures state { self.new ≡ with_record self.old rec (state_staged s) }
-        ensures lists { (b : BankLists) → self.old ≡ bank_shown b → self.new ≡ bank_shown (with_record b rec (lists_staged s)) }
+        ensures lists { StandsAfter bank_shown (λ b. with_record b rec (lists_staged s))
+            self.old self.new }
     {
         if rec == 0 {
             self.first.staged = s;
@@ -282,8 +286,8 @@ impl Bank {
         requires rec { rec < record_count self.old.kind }
         requires held { IsRecordHeld (kind_number self.old.kind) rec s.now }
         ensures state { self.new ≡ with_record self.old rec (λ _. s.now) }
-        ensures lists { (b : BankLists) (r : RecordLists) → self.old ≡ bank_shown b → s.now ≡ shown r
-            → self.new ≡ bank_shown (with_record b rec (λ _. r)) }
+        ensures lists { (r : RecordLists) → s.now ≡ shown r
+            → StandsAfter bank_shown (λ b. with_record b rec (λ _. r)) self.old self.new }
     {
         if rec == 0 {
             self.first = *s;

@@ -1,10 +1,10 @@
 //! The three banks of a machine.
 
 ghost use Rattle.std.specs.Prelude.{◌≡◌, ◌<◌, ◌≤◌, None, IfSome};
-ghost use Rattle.reri_bank.specs.State.{IsRecordHeld, RecordLists, shown, lists_logged, lists_written};
+ghost use Rattle.reri_bank.specs.State.{IsRecordHeld, StandsAfter, RecordLists, shown, lists_logged, lists_written};
 ghost use Rattle.reri_bank.specs.BankState.{kind_number, AreHeld};
 ghost use Rattle.reri_bank.specs.Bank.{record_count, is_control_of, no_events, lists_staged};
-ghost use Rattle.reri_bank.specs.Banks.{with_record_of, records_of, BanksLists, banks_shown, banks_of, banks_logged, banks_logged_by, bank_at, new_banks, with_now, first_critical, is_critical, banks_written, banks_written_by, banks_staged};
+ghost use Rattle.reri_bank.specs.Banks.{with_record_of, records_of, banks_shown, banks_of, banks_logged, banks_logged_by, bank_at, new_banks, with_now, first_critical, is_critical, banks_written, banks_written_by, banks_staged};
 
 use crate::bank::{Bank, BankKind};
 use crate::state::{RecState, Staged};
@@ -28,9 +28,15 @@ impl Model for Banks {
 
     ghost use Rattle.reri_bank.specs.declared.bank.BankKind.TheVariants.{Memory, Caches, Hart};
 
-    ghost view = { λ b. record { memory = b.memory; caches = b.caches; hart = b.hart; step = b.step } };
+    ghost view = { λ b. record {
+      memory = b.memory;
+      caches = b.caches;
+      hart = b.hart;
+      step = b.step;
+    } };
 
-    ghost invariant = { λ b. (b.memory.kind ≡ Memory) × (b.caches.kind ≡ Caches) × (b.hart.kind ≡ Hart) };
+    ghost invariant = { λ b. (b.memory.kind ≡ Memory) × (b.caches.kind ≡ Caches)
+        × (b.hart.kind ≡ Hart) };
 }
 
 /// Whether a record keeps a critical event.
@@ -60,7 +66,7 @@ impl Banks {
     /// Sets the step that is put into events.
     pub fn set_now(&mut self, n: u64)
         ensures state { self.new ≡ with_now self.old n }
-        ensures lists { (l : BanksLists) → self.old ≡ banks_shown l → self.new ≡ banks_shown (with_now l n) }
+        ensures lists { StandsAfter banks_shown (λ l. with_now l n) self.old self.new }
     {
         self.step = n;
     }
@@ -114,7 +120,8 @@ impl Banks {
         requires { b < 3 }
         ensures written { result ≡ is_control_of (bank_at self.old b).kind offset }
         ensures state { self.new ≡ banks_written self.old b offset v }
-        ensures lists { (l : BanksLists) → self.old ≡ banks_shown l → self.new ≡ banks_shown (banks_written_by lists_written l b offset v) }
+        ensures lists { StandsAfter banks_shown (λ l. banks_written_by lists_written l b offset v)
+            self.old self.new }
     {
         if b == 0 {
             self.memory.write_reg(offset, v)
@@ -135,7 +142,8 @@ impl Banks {
         requires left { IfSome s (λ t. 1 ≤ t.left) }
         requires hart { b ≡ 2 → s ≡ None }
         ensures state { self.new ≡ banks_staged self.old b rec s }
-        ensures lists { (l : BanksLists) → self.old ≡ banks_shown l → self.new ≡ banks_shown (with_record_of l b rec (lists_staged s)) }
+        ensures lists { StandsAfter banks_shown (λ l. with_record_of l b rec (lists_staged s))
+            self.old self.new }
     {
         if b == 0 {
             self.memory.set_staged(rec, s);
@@ -152,8 +160,8 @@ impl Banks {
         requires rec { rec < records_of b }
         requires held { IsRecordHeld b rec s.now }
         ensures state { self.new ≡ with_record_of self.old b rec (λ _. s.now) }
-        ensures lists { (l : BanksLists) (r : RecordLists) → self.old ≡ banks_shown l → s.now ≡ shown r
-            → self.new ≡ banks_shown (with_record_of l b rec (λ _. r)) }
+        ensures lists { (r : RecordLists) → s.now ≡ shown r
+            → StandsAfter banks_shown (λ l. with_record_of l b rec (λ _. r)) self.old self.new }
     {
         if b == 0 {
             self.memory.set_rec_state(rec, s);
@@ -172,7 +180,8 @@ impl EventLog for Banks {
     /// banks, or has a `pri` above 3, changes nothing.
     fn log(&mut self, e: Event)
         ensures state { self.new ≡ banks_logged self.old e }
-        ensures lists { (l : BanksLists) → self.old ≡ banks_shown l → self.new ≡ banks_shown (banks_logged_by lists_logged l e) }
+        ensures lists { StandsAfter banks_shown (λ l. banks_logged_by lists_logged l e)
+            self.old self.new }
     {
         if e.pri > 3 {
             return;

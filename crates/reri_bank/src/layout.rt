@@ -1,9 +1,8 @@
 //! Where a bank's registers are, and the bits of a record's registers (RERI 1.0: control_i and status_i).
 
-ghost use Rattle.std.specs.Prelude.{◌≡◌, ◌<◌, ℕ, Bool, true, Some, IfSome};
+ghost use Rattle.std.specs.Prelude.{◌≡◌, ◌<◌, IfSome};
 ghost use Rattle.std.specs.Option.{option_copied};
-ghost use Rattle.poison_mem.specs.declared.event.RecordView.{RecordView};
-ghost use Rattle.reri_bank.specs.Layout.{control_word, control_value, status_word, status_of_view, shown_count, stands_for_record, view_value, with_handed};
+ghost use Rattle.reri_bank.specs.Layout.{control_word, control_value, status_word, status_of_view, shown_count, stands_for_record, view_value, ComesBack};
 ghost use Rattle.poison_mem.specs.RecordView.{greatest_flag, IsSoundView};
 ghost use Rattle.reri_bank.specs.Views.{PriFits};
 
@@ -249,9 +248,7 @@ pub fn view_of(
 
 /// Of a sound view the status register, with its count shown, gives that view back, with what the other registers hand.
 pub fn views_come_back_from_their_registers(v: &RecordView)
-    ensures { IsSoundView v.now → (rdip : Bool) (addr info suppl time bank rec : ℕ) →
-        view_value (status_word (Some v.now) true rdip) addr info suppl time bank rec
-        ≡ Some (with_handed v.now addr info suppl time bank rec) }
+    ensures { IsSoundView v.now → ComesBack v.now }
 {
     // These reads tell the prover that both numbers fit their types.
     let _count = v.cec;

@@ -2,7 +2,7 @@
 
 ghost use Rattle.std.specs.Prelude.{◌≡◌, ◌==◌, ◌<◌, ℕ};
 ghost use Rattle.poison_mem.specs.declared.event.Event.{Event};
-ghost use Rattle.reri_bank.specs.State.{RecordLists, shown, state_logged, lists_logged, state_emptied, lists_emptied, state_marked, lists_marked, state_written, lists_written, IsRecordHeld};
+ghost use Rattle.reri_bank.specs.State.{shown, StandsAfter, StaysHeld, state_logged, lists_logged, state_emptied, lists_emptied, state_marked, lists_marked, state_written, lists_written};
 ghost use Rattle.reri_bank.specs.Views.{IsOf};
 
 use crate::layout::{Control, SINV, SRDP, control_of};
@@ -38,8 +38,9 @@ impl RecState {
     /// Logs an event, where logging is enabled.
     pub(crate) fn log(&mut self, event: Event)
         ensures state { self.new ≡ state_logged self.old event }
-        ensures lists { (r : RecordLists) → self.old ≡ shown r → self.new ≡ shown (lists_logged r event) }
-        ensures held { (bank rec : ℕ) → IsOf bank rec event → event.pri < 4 → IsRecordHeld bank rec self.old → IsRecordHeld bank rec self.new }
+        ensures lists { StandsAfter shown (λ r. lists_logged r event) self.old self.new }
+        ensures held { (bank rec : ℕ) → IsOf bank rec event → event.pri < 4
+            → StaysHeld bank rec self.old self.new }
     {
         if self.control.logging {
             self.kept = Some(with_event(self.kept, event));
@@ -50,8 +51,8 @@ impl RecState {
     /// Empties the record where `rdip` is set.
     pub(crate) fn empty(&mut self)
         ensures state { self.new ≡ state_emptied self.old }
-        ensures lists { (r : RecordLists) → self.old ≡ shown r → self.new ≡ shown (lists_emptied r) }
-        ensures held { (bank rec : ℕ) → IsRecordHeld bank rec self.old → IsRecordHeld bank rec self.new }
+        ensures lists { StandsAfter shown lists_emptied self.old self.new }
+        ensures held { (bank rec : ℕ) → StaysHeld bank rec self.old self.new }
     {
         if self.rdip {
             self.kept = None;
@@ -62,8 +63,8 @@ impl RecState {
     /// Sets `rdip` where the record is valid.
     pub(crate) fn mark(&mut self)
         ensures state { self.new ≡ state_marked self.old }
-        ensures lists { (r : RecordLists) → self.old ≡ shown r → self.new ≡ shown (lists_marked r) }
-        ensures held { (bank rec : ℕ) → IsRecordHeld bank rec self.old → IsRecordHeld bank rec self.new }
+        ensures lists { StandsAfter shown lists_marked self.old self.new }
+        ensures held { (bank rec : ℕ) → StaysHeld bank rec self.old self.new }
     {
         if self.kept.is_some() {
             self.rdip = true;
@@ -73,8 +74,10 @@ impl RecState {
     /// Writes the control register.
     pub(crate) fn write(&mut self, always_logs: bool, value: u64)
         ensures state { self.new ≡ state_written always_logs self.old value }
-        ensures lists { (r : RecordLists) → self.old ≡ shown r → self.new ≡ shown (lists_written always_logs r value) }
-        ensures held { (bank rec : ℕ) → (bank == 2) ≡ always_logs → IsRecordHeld bank rec self.old → IsRecordHeld bank rec self.new }
+        ensures lists { StandsAfter shown (λ r. lists_written always_logs r value)
+            self.old self.new }
+        ensures held { (bank rec : ℕ) → (bank == 2) ≡ always_logs
+            → StaysHeld bank rec self.old self.new }
     {
         let mut control = control_of(value);
         control.logging = control.logging | always_logs;

@@ -2,7 +2,6 @@
 use Rattle.std.proofs.Common.{◌≡◌, ℕ, ◌+◌, ◌-◌, ◌<◌, ◌≤◌, Bool, true, false, nat_lt, cond, List, [], ◌∷◌, ◌++◌, Option, Some, None, refl, sym, subst, ap, ◌∙◌, arith}
 use Rattle.std.specs.List.{AllByRecursion}
 use Rattle.poison_mem.specs.declared.event.Event.{Event}
-use Rattle.poison_mem.specs.Bus.{logged_all}
 use Rattle.poison_mem.specs.RecordId.{bank_number, record_number}
 use Rattle.poison_mem.specs.declared.record_id.RecordId.{RecordId}
 use Rattle.poison_mem.specs.declared.record_id.RecordId.TheVariants.{Read, Scrub, L1, L2, Hart}
@@ -27,13 +26,6 @@ log_keeps b e = each_logged (λ s t. t.staged ≡ s.staged) b e (record { itself
 
 pub write_keeps : (b : BanksState) (bank offset v : ℕ) → KeepsStaged b (banks_written b bank offset v)
 write_keeps b bank offset v = each_written (λ s t. t.staged ≡ s.staged) (λ always v. record { itself = λ s. refl; changed = λ s. written_staged always s v }) b bank offset v
-
-pub logs_keep : (b : BanksState) (es : List Event) → KeepsStaged b (logged_all banks_logged b es)
-logs_keep b [] id = refl
-logs_keep b (e ∷ es) id = logs_keep (banks_logged b e) es id ∙ log_keeps b e id
-
-pub keeps_all : (a b c : BanksState) → KeepsStaged a b → KeepsStaged b c → KeepsStaged a c
-keeps_all a b c h k id = k id ∙ h id
 
 -- the beginning of a step, for one record
 pub counted_at : (id : RecordId) (n : ℕ) (b : BanksState) → bank_number id < 2 → state_at (begun n b) id ≡ state_counted n (bank_number id) (record_number id) (state_at b id)
@@ -79,10 +71,7 @@ begun_counts lines n id b below delayed staged =
     subst (IsCounted lines (n + 1) id (state_at b id)) (sym (counted_at id (n + 1) b below))
     (as_counted (counted (state_at b id).staged) lines n id (state_at b id) delayed (ap counted (sym staged)))
 
--- what is staged of all records: at first, by a line, by the beginning of a step and by anything else
-pub staged_first : (b : BanksState) → ((id : RecordId) → (state_at b id).staged ≡ None) → AreStaged (λ _. []) 0 b
-staged_first b none id below = none id
-
+-- what is staged of all records: by a line, and by the beginning of a step
 pub staged_line : (lines : RecordId → List InjectLine) (n delay : ℕ) (i : Injection) (other : RecordId) (b : BanksState) → 1 ≤ delay → AreStaged lines n b
     → AreStaged (λ id. cond (is_record (bank_number other) (record_number other) id) (lines id ++ record { step = n; delay = delay; injection = i } ∷ []) (lines id)) n
     (banks_staged b (bank_number other) (record_number other) (Some (staged_now i.class delay i.addr)))
@@ -98,6 +87,3 @@ pub staged_begun : (lines : RecordId → List InjectLine) (n : ℕ) (b : BanksSt
     → AreStaged lines (n + 1) (begun (n + 1) b)
 staged_begun lines n b past staged id below =
     begun_staged id (n + 1) b below ∙ ap (λ (o : Option Staged). left_staged (counted o)) (staged id below) ∙ sym (step_counts n (lines id) (past id))
-
-pub staged_kept : (lines : RecordId → List InjectLine) (n : ℕ) (b c : BanksState) → KeepsStaged b c → AreStaged lines n b → AreStaged lines n c
-staged_kept lines n b c keeps staged id below = keeps id ∙ staged id below

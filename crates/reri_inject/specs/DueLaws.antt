@@ -2,7 +2,6 @@
 use Rattle.std.proofs.Common.{◌≡◌, ℕ, ◌+◌, ◌-◌, ◌<◌, ◌≤◌, Bool, true, false, nat_lt, cond, List, [], ◌∷◌, ◌++◌, Option, Some, None, refl, sym, subst, ap, ◌∙◌, arith}
 use Rattle.std.specs.List.{AllByRecursion}
 use Rattle.std.specs.Option.{option_or}
-use Rattle.std.proofs.lemmas.List.{append_assoc}
 use Rattle.reri_bank.specs.declared.state.Staged.{Staged}
 use Rattle.reri_inject.specs.Due.{Injection, InjectLine, IsDue, last_below, left_by, staged_in}
 use Rattle.reri_inject.specs.Inject.{Counted, counted, Rests, Waits, Fires}
@@ -58,25 +57,6 @@ found n (l ∷ lines) = by_last (last_below n lines) (found n lines)
     by_last : (last : Option InjectLine) → Found n lines last → Found n (l ∷ lines) (option_or last (cond (nat_lt l.step n) (Some l) None))
     by_last None none = by_step (nat_lt l.step n) refl none
     by_last (Some line) h = record { before = l ∷ h.before; behind = h.behind; among = ap (λ (ls : List InjectLine). l ∷ ls) h.among; low = h.low; last = h.last }
-
--- lines of later steps change nothing
-pub later_lines : (n : ℕ) (lines later : List InjectLine) → AllByRecursion (λ (l : InjectLine). n ≤ l.step) later → last_below n (lines ++ later) ≡ last_below n lines
-later_lines n [] later h = none_below n later h
-later_lines n (l ∷ lines) later h = rw (later_lines n lines later h) refl
-
-pub staged_before : (n : ℕ) (lines later : List InjectLine) → AllByRecursion (λ (l : InjectLine). n + 1 ≤ l.step) later → staged_in n (lines ++ later) ≡ staged_in n lines
-staged_before n lines later h = ap (left_by n) (later_lines (n + 1) lines later h)
-
-pub due_before : (n : ℕ) (lines later : List InjectLine) (i : Injection) → AllByRecursion (λ (l : InjectLine). n ≤ l.step) later → IsDue lines n i → IsDue (lines ++ later) n i
-due_before n lines later i h is = record {
-  before = is.before;
-  line = is.line;
-  behind = is.behind ++ later;
-  among = ap (λ (ls : List InjectLine). ls ++ later) is.among ∙ append_assoc is.before (is.line ∷ is.behind) later;
-  due = is.due;
-  injects = is.injects;
-  last = all_append (λ (l : InjectLine). n ≤ l.step) is.behind later is.last h;
-}
 
 -- a line more stages its injection
 pub line_staged : (n delay : ℕ) (i : Injection) (lines : List InjectLine) → 1 ≤ delay
@@ -151,7 +131,7 @@ fired_due n lines t fires = by_last (last_below (n + 1) lines) (found (n + 1) li
     by_last (Some l) is e = by_waits l is (nat_lt n (l.step + l.delay)) refl e
 
 -- and what is due fires
-all_at : {X : Type 0} (P : X → Type 0) (xs : List X) (x : X) (ys : List X) → AllByRecursion P (xs ++ x ∷ ys) → P x
+pub all_at : {X : Type 0} (P : X → Type 0) (xs : List X) (x : X) (ys : List X) → AllByRecursion P (xs ++ x ∷ ys) → P x
 all_at P [] x ys h = h.0
 all_at P (y ∷ xs) x ys h = all_at P xs x ys h.1
 

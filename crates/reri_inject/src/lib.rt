@@ -9,6 +9,6 @@ mod due;
 mod inject;
 
 pub use calls::injections_are_logged_when_due;
-pub use critical::critical_events_are_due;
+pub use critical::{critical_events_are_due, other_calls_bring_no_critical_event};
 pub use due::at_most_one_injection_is_due;
 pub use inject::{count_down, stage};
