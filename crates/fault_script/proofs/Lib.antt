@@ -4,3 +4,5 @@ pub mod JoinLemmas
 pub mod RoundTrip
 pub mod SortLemmas
 pub mod StepLemmas
+pub mod EditLemmas
+pub mod WritingLemmas

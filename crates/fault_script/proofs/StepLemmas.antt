@@ -21,7 +21,7 @@ none_earlier : (n : ℕ) (xs : List ScriptLine) → AllByRecursion (λ y. n ≤ 
 none_earlier n [] all = refl
 none_earlier n (x ∷ xs) all = later_first n x xs all.0 ∙ none_earlier n xs all.1
 
-all_later : (n m : ℕ) (xs : List ScriptLine) → n ≤ m → AllByRecursion (λ y. m ≤ y.step) xs → AllByRecursion (λ y. n ≤ y.step) xs
+pub all_later : (n m : ℕ) (xs : List ScriptLine) → n ≤ m → AllByRecursion (λ y. m ≤ y.step) xs → AllByRecursion (λ y. n ≤ y.step) xs
 all_later n m [] h all = tt
 all_later n m (x ∷ xs) h all = (omega (arith, all.0), all_later n m xs h all.1)
 

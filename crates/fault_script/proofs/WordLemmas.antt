@@ -26,11 +26,11 @@ pub parts_cut : (p : ℕ → Bool) (bs : List ℕ) → 0 < length bs
 parts_cut p [] h = absurd (omega arith)
 parts_cut p (b ∷ bs) h = parts_step p b bs (p b) (parts_cut p bs)
 
-pub within : (p : ℕ → Bool) (bs : List ℕ) → position_or_len p bs ≤ length bs
-within p bs = prefix_len-le-length (λ x. not (p x)) bs
+pub within : {X : Type 0} (p : X → Bool) (xs : List X) → position_or_len p xs ≤ length xs
+within p xs = prefix_len-le-length (λ x. not (p x)) xs
 
 -- the index that `position` finds, or the length
-pub found_or_len : (p : ℕ → Bool) (bs : List ℕ) (r : Option ℕ)
+pub found_or_len : {X : Type 0} (p : X → Bool) (bs : List X) (r : Option ℕ)
     → r ≡ cond (nat_lt (position_or_len p bs) (length bs)) (Some (position_or_len p bs)) None
     → unwrap_or r (length bs) ≡ position_or_len p bs
 found_or_len p bs r h = rw h (chosen (position_or_len p bs) (length bs) (within p bs)) where

@@ -1,6 +1,9 @@
 pub mod Words
+pub mod Fields
+pub mod Commands
 pub mod Script
 pub mod Steps
 pub mod Writing
 pub mod Fits
 pub mod ReadBack
+pub mod Scripts

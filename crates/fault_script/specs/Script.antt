@@ -1,45 +1,19 @@
 -- What a text is as a script: its lines, or the first line that fails and why.
-use Rattle.std.specs.Prelude.{◌≡◌, ℕ, zero, suc, ◌+◌, ◌%◌, Bool, true, false, not, ◌&&◌, ◌||◌, ◌==◌, nat_le, if◌then◌else◌, List, [], ◌∷◌, ◌++◌, length, get_or, Option, Some, None, Result, Ok, Err, codes, slice_index}
+use Rattle.std.specs.Prelude.{◌≡◌, ℕ, zero, suc, ◌+◌, Bool, true, false, not, ◌&&◌, ◌||◌, ◌==◌, nat_le, if◌then◌else◌, List, [], ◌∷◌, ◌++◌, length, get_or, Option, Some, None, Result, Ok, Err, slice_index}
 use Rattle.std.specs.List.{list_all}
-use Rattle.std.specs.Str.{bytes_eq}
-use Rattle.ras_bits.specs.Map.{word_at, is_ram}
 use Rattle.ras_bits.specs.Results.{◌>>=◌}
 use Rattle.ras_bits.specs.declared.map.TheConstants.{LAST_STEP}
-use Rattle.ras_numbers.specs.Numbers.{number_of}
 use Rattle.fault_script.specs.Words.{lines_of, words_of, without_return}
+use Rattle.fault_script.specs.Fields.{Field, Fields, no_fields, number_up_to, field_read}
+use Rattle.fault_script.specs.Commands.{command_of, command_fields, act_of}
 use Rattle.fault_script.specs.declared.lines.TheConstants.{MOST_LINES}
+use Rattle.fault_script.specs.declared.commands.Command.{Command}
 use Rattle.fault_script.specs.declared.lines.Act.{Act}
-use Rattle.fault_script.specs.declared.lines.Act.TheVariants as act
-use Rattle.fault_script.specs.declared.lines.Command.{Command}
-use Rattle.fault_script.specs.declared.lines.Command.TheVariants as command
 use Rattle.fault_script.specs.declared.lines.Why.{Why}
 use Rattle.fault_script.specs.declared.lines.Why.TheVariants as why
 use Rattle.fault_script.specs.declared.lines.ScriptLine.{ScriptLine}
 use Rattle.fault_script.specs.declared.lines.ScriptError.{ScriptError}
 use Rattle.fault_script.specs.declared.lines.ScriptError.TheVariants as errors
-
--- Fields
-
--- a field that is no number is refused as that
-abbrev pub number_or : Option ℕ → Result ℕ Why
-number_or None = Err why.Number
-number_or (Some n) = Ok n
-
--- a number that is at most the limit
-unfoldable pub number_up_to : Why → ℕ → List ℕ → Result ℕ Why
-number_up_to refusal limit word = do
-  n ← number_or (number_of word)
-  if nat_le n limit then Ok n else Err refusal
-
--- the address of a word in a RAM of so many words
-abbrev pub is_word_address : ℕ → ℕ → Bool
-is_word_address ram_words n = n % 8 == 0 && is_ram ram_words n
-
--- an address of a word in RAM
-unfoldable pub address_of : ℕ → List ℕ → Result ℕ Why
-address_of ram_words word = do
-  n ← number_or (number_of word)
-  if is_word_address ram_words n then Ok n else Err why.Address
 
 -- Lines
 
@@ -47,35 +21,18 @@ address_of ram_words word = do
 abbrev pub line_word : List (List ℕ) → ℕ → List ℕ
 line_word words k = get_or words k []
 
--- the command that a word names
-unfoldable pub command_of : List ℕ → Result Command Why
-command_of word =
-    if bytes_eq word (codes "flip") then Ok command.Flip
-    else if bytes_eq word (codes "scrub") then Ok command.Scrub
-    else Err why.Word
+-- what the words from number k on say as these fields, the first that is refused first
+abbrev pub fields_read : ℕ → List (List ℕ) → ℕ → List Field → Fields → Result Fields Why
+fields_read ram_words words k [] read = Ok read
+fields_read ram_words words k (field ∷ fields) read = do
+  read ← field_read ram_words field (line_word words k) read
+  fields_read ram_words words (k + 1) fields read
 
--- how many words a line of the command has
-abbrev pub word_count : Command → ℕ
-word_count command.Flip = 4
-word_count command.Scrub = 3
-
--- flip STEP ADDR BIT
-unfoldable pub flip_of : ℕ → List (List ℕ) → Result Act Why
-flip_of ram_words words = do
-  address ← address_of ram_words (line_word words 2)
-  bit ← number_up_to why.Bit 71 (line_word words 3)
-  Ok (act.Flip (word_at address) bit)
-
--- scrub STEP ADDR
-unfoldable pub scrub_of : ℕ → List (List ℕ) → Result Act Why
-scrub_of ram_words words = do
-  address ← address_of ram_words (line_word words 2)
-  Ok (act.Scrub (word_at address))
-
--- what the fields behind the step say
-abbrev pub act_of : ℕ → List (List ℕ) → Command → Result Act Why
-act_of ram_words words command.Flip = flip_of ram_words words
-act_of ram_words words command.Scrub = scrub_of ram_words words
+-- what the words behind the step say
+unfoldable pub act_said : ℕ → List (List ℕ) → Command → Result Act Why
+act_said ram_words words command = do
+  fields ← fields_read ram_words words 2 (command_fields command) no_fields
+  Ok (act_of command fields)
 
 -- a line is refused unless the test holds
 abbrev pub guard : Bool → Why → Result ℕ Why
@@ -86,10 +43,10 @@ guard false refusal = Err refusal
 unfoldable pub acting_line : ℕ → ℕ → List (List ℕ) → Result ScriptLine Why
 acting_line ram_words acted words = do
   command ← command_of (line_word words 0)
-  counted ← guard (length words == word_count command) why.Count
+  counted ← guard (length words == length (command_fields command) + 2) why.Count
   room ← guard (not (acted == MOST_LINES)) why.TooMany
   step ← number_up_to why.Step LAST_STEP (line_word words 1)
-  act ← act_of ram_words words command
+  act ← act_said ram_words words command
   Ok (record { step = step; act = act })
 
 -- printable ASCII, a space or a tab

@@ -1,26 +1,24 @@
 -- The canonical text of a script.
-use Rattle.std.specs.Prelude.{ℕ, List, ◌++◌, codes, decimal}
+use Rattle.std.specs.Prelude.{ℕ, List, [], ◌∷◌, ◌++◌, codes, decimal}
 use Rattle.std.specs.List.{flat_map}
-use Rattle.ras_bits.specs.Map.{word_address}
-use Rattle.ras_numbers.specs.Numbers.{address_text}
-use Rattle.fault_script.specs.declared.lines.Act.{Act}
-use Rattle.fault_script.specs.declared.lines.Act.TheVariants as act
+use Rattle.fault_script.specs.Fields.{Field, Fields, field_text}
+use Rattle.fault_script.specs.Commands.{command_name, command_fields, command_of_act, fields_of_act}
+use Rattle.fault_script.specs.declared.commands.Command.{Command}
 use Rattle.fault_script.specs.declared.lines.ScriptLine.{ScriptLine}
 
--- the address of a word of RAM
-abbrev pub word_address_text : ℕ → List ℕ
-word_address_text w = address_text (word_address w)
+-- fields, each behind a space
+abbrev pub fields_text : List Field → Fields → List ℕ
+fields_text [] held = []
+fields_text (field ∷ fields) held = codes " " ++ field_text field held ++ fields_text fields held
 
--- the line of an act in a step
-abbrev pub act_text : ℕ → Act → List ℕ
-act_text step (act.Flip w bit) =
-    codes "flip " ++ decimal step ++ codes " " ++ word_address_text w ++ codes " " ++ decimal bit ++ codes "\n"
-act_text step (act.Scrub w) =
-    codes "scrub " ++ decimal step ++ codes " " ++ word_address_text w ++ codes "\n"
+-- a command with its step, its fields and a line feed
+abbrev pub command_text : ℕ → Command → Fields → List ℕ
+command_text step command held =
+    command_name command ++ codes " " ++ decimal step ++ fields_text (command_fields command) held ++ codes "\n"
 
--- a line with its line feed
+-- a line
 abbrev pub line_text : ScriptLine → List ℕ
-line_text line = act_text line.step line.act
+line_text line = command_text line.step (command_of_act line.act) (fields_of_act line.act)
 
 -- the lines of a script, one after the other
 abbrev pub script_text : List ScriptLine → List ℕ

@@ -1,9 +1,11 @@
-//! The script of faults that a run is given: bits to flip and words to scrub, each before a step.
+//! The script of faults that a run is given: bits to flip, words to scrub, errors to inject and control
+//! registers to write, each before a step.
 //!
 //! A text is read into its lines, or refused at its first failing line with the cause. The lines of
 //! a script stand in rising steps, and their canonical text is read as the same script.
 #![tactic(auto)]
 
+mod commands;
 mod fields;
 mod laws;
 mod lines;
@@ -15,3 +17,4 @@ mod writing;
 pub use laws::written_reads_back;
 pub use lines::{Act, ScriptError, ScriptLine, Why};
 pub use scripts::Script;
+pub use writing::line_text;

@@ -3,58 +3,82 @@
 ghost use Rattle.std.specs.Prelude.{◌≡◌, ◌<◌, ◌^◌, ◌≢◌, length, IfOk, OnOk, IfSome, OnSome};
 ghost use Rattle.std.specs.List.{list_all};
 ghost use Rattle.fault_script.specs.declared.lines.TheConstants.{MOST_LINES};
+ghost use Rattle.fault_script.specs.declared.commands.Command.TheVariants.{Flip, Scrub, Inject, Control};
 ghost use Rattle.fault_script.specs.Words.{words_of};
 ghost use Rattle.fault_script.specs.Fits.{FitsRamAct, FitsRam, AreReadable};
-ghost use Rattle.fault_script.specs.Script.{flip_of, scrub_of, act_of, word_count, acting_line, is_script_byte, line_of, lines_in, GivesLines, map_ok};
+ghost use Rattle.fault_script.specs.Script.{act_said, acting_line, is_script_byte, line_of, lines_in, GivesLines, map_ok};
 
-use crate::fields::{address, command, number_up_to};
-use crate::lines::{Act, Command, MOST_LINES, ScriptError, ScriptLine, Why};
+use crate::commands::Command;
+use crate::fields::{address, bank_or_record, bit, class, control_value, delay, number_up_to};
+use crate::lines::{Act, MOST_LINES, ScriptError, ScriptLine, Why};
 use crate::words::{count_words, cut_line, line_word, trim_return};
 use ras_bits::{LAST_STEP, word_at};
 use std::alloc::Global;
 
 // `flip STEP ADDR BIT`, from its third word on.
-#[tactic(auto, unfolding(crate::specs::Script::flip_of))]
+#[tactic(auto, unfolding(crate::specs::Script::act_said))]
 fn flip(line: &[u8], ram_words: u32) -> Result<Act, Why>
-    ensures exact { result ≡ flip_of ram_words (words_of line.now) }
+    ensures exact { result ≡ act_said ram_words (words_of line.now) Flip }
     ensures fits { IfOk result (FitsRamAct ram_words) }
 {
     let address = address(line_word(line, 2), ram_words)?;
-    let bit = number_up_to(line_word(line, 3), 71, Why::Bit)?;
-    Ok(Act::Flip {
-        w: word_at(ram_words, address),
-        bit: bit as u8,
-    })
+    let bit = bit(line_word(line, 3))?;
+    let w = word_at(ram_words, address);
+    Ok(Act::Flip { w, bit })
 }
 
 // `scrub STEP ADDR`, from its third word on.
-#[tactic(auto, unfolding(crate::specs::Script::scrub_of))]
+#[tactic(auto, unfolding(crate::specs::Script::act_said))]
 fn scrub(line: &[u8], ram_words: u32) -> Result<Act, Why>
-    ensures exact { result ≡ scrub_of ram_words (words_of line.now) }
+    ensures exact { result ≡ act_said ram_words (words_of line.now) Scrub }
     ensures fits { IfOk result (FitsRamAct ram_words) }
 {
     let address = address(line_word(line, 2), ram_words)?;
-    Ok(Act::Scrub {
-        w: word_at(ram_words, address),
+    let w = word_at(ram_words, address);
+    Ok(Act::Scrub { w })
+}
+
+// `inject STEP BANK REC CLASS DELAY ADDR`, from its third word on.
+#[tactic(auto, unfolding(crate::specs::Script::act_said))]
+fn inject(line: &[u8], ram_words: u32) -> Result<Act, Why>
+    ensures exact { result ≡ act_said ram_words (words_of line.now) Inject }
+    ensures fits { IfOk result (FitsRamAct ram_words) }
+{
+    let bank = bank_or_record(line_word(line, 2))?;
+    let rec = bank_or_record(line_word(line, 3))?;
+    let class = class(line_word(line, 4))?;
+    let delay = delay(line_word(line, 5))?;
+    let addr = address(line_word(line, 6), ram_words)?;
+    Ok(Act::Inject {
+        bank,
+        rec,
+        class,
+        delay,
+        addr,
     })
 }
 
+// `control STEP BANK REC VALUE`, from its third word on.
+#[tactic(auto, unfolding(crate::specs::Script::act_said))]
+fn control(line: &[u8], ram_words: u32) -> Result<Act, Why>
+    ensures exact { result ≡ act_said ram_words (words_of line.now) Control }
+    ensures fits { IfOk result (FitsRamAct ram_words) }
+{
+    let bank = bank_or_record(line_word(line, 2))?;
+    let rec = bank_or_record(line_word(line, 3))?;
+    let value = control_value(line_word(line, 4))?;
+    Ok(Act::Control { bank, rec, value })
+}
+
 fn act(line: &[u8], ram_words: u32, command: Command) -> Result<Act, Why>
-    ensures exact { result ≡ act_of ram_words (words_of line.now) command }
+    ensures exact { result ≡ act_said ram_words (words_of line.now) command }
     ensures fits { IfOk result (FitsRamAct ram_words) }
 {
     match command {
         Command::Flip => flip(line, ram_words),
         Command::Scrub => scrub(line, ram_words),
-    }
-}
-
-fn word_count(command: Command) -> usize
-    ensures { result ≡ word_count command }
-{
-    match command {
-        Command::Flip => 4,
-        Command::Scrub => 3,
+        Command::Inject => inject(line, ram_words),
+        Command::Control => control(line, ram_words),
     }
 }
 
@@ -65,8 +89,8 @@ fn acting_line(line: &[u8], acted: usize, ram_words: u32) -> Result<ScriptLine, 
     ensures fits { IfOk result (FitsRam ram_words) }
     ensures room { OnOk result (acted ≢ MOST_LINES) }
 {
-    let command = command(line_word(line, 0))?;
-    if count_words(line) != word_count(command) {
+    let command = Command::named(line_word(line, 0))?;
+    if count_words(line) != command.word_count() {
         return Err(Why::Count);
     }
     if acted == MOST_LINES {

@@ -99,3 +99,8 @@ same_ends a b c first faults now code same low e = subst (λ (o : Outside). RunE
   later = omega (arith, e.later);
   cause = λ three. rose_later first faults now low (e.cause three);
 })
+
+-- a run writes a line only where a file is refused
+pub ends_line : (a b : Outside) (faults now code : ℕ) → RunEnds a b faults now code → (code ≡ 1) ⊎ (code ≡ 2) → WritesLine a b
+ends_line a b faults now code e (inl one) = absurd (e.words one)
+ends_line a b faults now code e (inr two) = e.refused two

@@ -8,7 +8,8 @@ use Rattle.ras_words.specs.Commands.{run_of}
 use Rattle.ras_cli.specs.Refusals.{usage}
 use Rattle.ras_cli.specs.declared.status.Exit.TheVariants as exits
 use Rattle.ras_cli.specs.Plan.{Planned, calls_then, planned_by, line_written}
-use Rattle.ras_cli.specs.Follows.{IsFailed, IsCut, AreReads, IsStopped, IsFront, MakesFront, Follows, WritesLine}
+use Rattle.ras_cli.specs.Reaches.{Made}
+use Rattle.ras_cli.specs.Follows.{IsFailed, IsCut, Cuts, AreReads, IsStopped, IsFront, MakesFront, Follows, WritesLine}
 
 abbrev planned : ℕ → List HostAction → Planned
 planned code actions = record { code = code; actions = actions }
@@ -71,6 +72,53 @@ follows_then a b c action actions code status no4 h g = record {
   cut = λ e. let k = g.cut e in (action ∷ k.0, inr (k.0, refl, k.1), performs_then a b c action k.0 h k.2);
   stopped = λ e. absurd (no4 e);
 }
+
+-- ---- writes, one after the other
+
+-- all of a plan was done
+pub follows_done : (a b : Outside) (actions : List HostAction) (code : ℕ) → code ≢ 3 → code ≢ 4 → Performs a b actions → Follows a b (planned code actions) code
+follows_done a b actions code no3 no4 h = record {
+  status = λ _ _. refl;
+  whole = λ _ _. h;
+  cut = λ e. absurd (no3 e);
+  stopped = λ e. absurd (no4 e);
+}
+
+-- a call of it failed
+pub follows_cut : (a b : Outside) (actions : List HostAction) (code : ℕ) → Cuts a b actions → Follows a b (planned code actions) 3
+follows_cut a b actions code h = record {
+  status = λ no3 _. absurd (no3 refl);
+  whole = λ no3 _. absurd (no3 refl);
+  cut = λ _. h;
+  stopped = λ e. absurd (three≢four 3 4 refl refl e);
+}
+
+-- the first call failed
+pub cut_first : (a b : Outside) (action : HostAction) (actions done : List HostAction) → IsFailed action done → Performs a b done → Cuts a b (action ∷ actions)
+cut_first a b action actions done failed h = (done, inl failed, h)
+
+-- the first call was made, and a later one failed
+pub cut_then : (a b c : Outside) (action : HostAction) (actions : List HostAction) → Performs a b (action ∷ []) → Cuts b c actions → Cuts a c (action ∷ actions)
+cut_then a b c action actions made h = (action ∷ h.0, inr (h.0, refl, h.1), performs_then a b c action h.0 made h.2)
+
+-- one of the first calls failed
+pub cut_more : (a b : Outside) (xs ys : List HostAction) → Cuts a b xs → Cuts a b (xs ++ ys)
+cut_more a b xs ys h = (h.0, more xs h.0 h.1, h.2)
+  where
+    more : (xs done : List HostAction) → IsCut xs done → IsCut (xs ++ ys) done
+    more [] done cut = absurd cut
+    more (x ∷ xs) done (inl failed) = inl failed
+    more (x ∷ xs) done (inr k) = inr (k.0, k.1, more xs k.0 k.2)
+
+-- the first calls were made, and a later one failed
+pub made_cut : (a b c : Outside) (xs ys : List HostAction) → Made a b xs → Cuts b c ys → Cuts a c (xs ++ ys)
+made_cut a b c [] ys e h = subst (λ (o : Outside). Cuts o c ys) e h
+made_cut a b c (x ∷ xs) ys made h = ((x ∷ xs) ++ h.0, cut_append (x ∷ xs) ys h.0 h.1, performs_append a b c (x ∷ xs) h.0 made h.2)
+
+-- the first calls were made, and then the others
+pub made_performs : (a b c : Outside) (xs ys : List HostAction) → Made a b xs → Performs b c ys → Performs a c (xs ++ ys)
+made_performs a b c [] ys e h = subst (λ (o : Outside). Performs o c ys) e h
+made_performs a b c (x ∷ xs) ys made h = performs_append a b c (x ∷ xs) ys made h
 
 pub if_some_all : {T : Type 0} (o : Option T) (Q : T → Type 0) → ((x : T) → Q x) → IfSome o Q
 if_some_all None Q f = tt

@@ -1,6 +1,6 @@
-pub mod Registers
 pub mod FollowsLemmas
 pub mod EndsLemmas
+pub mod WritesLemmas
 pub mod RunsLemmas
 pub mod AcceptedLemmas
 pub mod HeadlineLemmas

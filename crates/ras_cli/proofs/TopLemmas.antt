@@ -3,7 +3,7 @@ use Rattle.std.proofs.Common.{ℕ, List, Option, Some, None}
 use Rattle.std.specs.Prelude.{IfSome}
 use Rattle.ras_host.specs.Told.{Bytes, File, Outside}
 use Rattle.ras_words.specs.Commands.{run_of}
-use Rattle.ras_words.specs.Run.{Run}
+use Rattle.ras_words.specs.Run.{RunRequest}
 use Rattle.ras_cli.specs.Plan.{carried_out, plan_of, planned_by}
 use Rattle.ras_cli.specs.Follows.{Follows}
 use Rattle.ras_cli.specs.Headline.{Completes}
@@ -15,6 +15,6 @@ pub words_complete : (files : Option (List File)) (words : List Bytes) (a b : Ou
     → IfSome files (λ fs. IfSome (run_of words) (λ run. Completes fs run a b code))
 words_complete files words a b code f = go (run_of words) f
   where
-    go : (o : Option Run) → IfSome files (λ fs. Follows a b (carried_out (plan_of o) fs) code) → IfSome files (λ fs. IfSome o (λ run. Completes fs run a b code))
+    go : (o : Option RunRequest) → IfSome files (λ fs. Follows a b (carried_out (plan_of o) fs) code) → IfSome files (λ fs. IfSome o (λ run. Completes fs run a b code))
     go None f = if_some_all files _ (λ fs. tt)
     go (Some run) f = all_complete files run a b code f

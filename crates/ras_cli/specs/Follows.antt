@@ -19,6 +19,10 @@ abbrev pub IsCut : List HostAction → List HostAction → Type 0
 IsCut [] done = ⊥
 IsCut (action ∷ actions) done = IsFailed action done ⊎ ((rest : List HostAction) × (done ≡ action ∷ rest) × IsCut actions rest)
 
+-- they were done up to one, and nothing else was done
+abbrev pub Cuts : Outside → Outside → List HostAction → Type 0
+Cuts before after actions = (done : List HostAction) × IsCut actions done × Performs before after done
+
 -- the action reads a file
 abbrev pub IsRead : HostAction → Type 0
 IsRead (Read name limit) = Unit {0}
@@ -41,7 +45,7 @@ pub record IsStopped (actions done : List HostAction) : Type 0 where
 pub record Follows (before after : Outside) (plan : Planned) (code : ℕ) : Type 0 where
   pub status : code ≢ code_of HostFailed → code ≢ code_of NoMemory → code ≡ plan.code
   pub whole : code ≢ code_of HostFailed → code ≢ code_of NoMemory → Performs before after plan.actions
-  pub cut : code ≡ code_of HostFailed → (done : List HostAction) × IsCut plan.actions done × Performs before after done
+  pub cut : code ≡ code_of HostFailed → Cuts before after plan.actions
   pub stopped : code ≡ code_of NoMemory → (after ≡ before) ⊎ ((done : List HostAction) × IsStopped plan.actions done × Performs before after done)
 
 -- the calls of some actions are the first of the plan's

@@ -1,8 +1,9 @@
 pub mod Status
 pub mod Files
-pub mod Report
 pub mod Refusals
 pub mod Plan
+pub mod Writes
+pub mod Inputs
 pub mod Follows
 pub mod Reaches
 pub mod Accepted

@@ -6,17 +6,21 @@ use Rattle.elf_load.specs.declared.refusals.ElfRefused.{ElfRefused}
 use Rattle.fault_script.specs.Script.{lines_in}
 use Rattle.fault_script.specs.declared.lines.ScriptLine.{ScriptLine}
 use Rattle.fault_script.specs.declared.lines.ScriptError.{ScriptError}
-use Rattle.ras_host.specs.Told.{Bytes, HostAction, Read, Out, Err, File, bytes_of}
-use Rattle.rv64_hart.specs.Harts.{hart_at}
+use Rattle.ras_host.specs.Told.{Bytes, HostAction, Read, Create, Out, Err, File, bytes_of}
 use Rattle.rv64_hart.specs.State.{ArchitecturalState}
+use Rattle.ras_firmware.specs.Memory.{memory_bytes}
+use Rattle.ras_firmware.specs.declared.firmware.Firmware.{Firmware}
 use Rattle.ras_machine.specs.Machine.{StackMachine, faulty_run, ending_in}
+use Rattle.ras_machine.specs.Schedule.{Given, given_by}
 use Rattle.ras_machine.specs.Settings.{ram_words}
 use Rattle.ras_machine.specs.declared.ending.Stop.{Stop}
-use Rattle.ras_machine.specs.declared.ending.Stop.TheVariants.{Shutdown, Reboot, Budget, ConsoleFull, Consumed}
+use Rattle.ras_machine.specs.declared.ending.Stop.TheVariants.{Shutdown, Reboot, Budget, ConsoleFull, Consumed, Injected}
 use Rattle.ras_machine.specs.declared.ending.Ending.{Ending}
 use Rattle.ras_machine.specs.declared.settings.Settings.{Settings}
+use Rattle.ras_report.specs.Records.{file_bytes}
+use Rattle.ras_report.specs.Reports.{report_of}
 use Rattle.ras_words.specs.Commands.{run_of}
-use Rattle.ras_words.specs.Run.{Run}
+use Rattle.ras_words.specs.Run.{MachineRequest, RunRequest}
 use Rattle.ras_cli.specs.declared.files.FileKind.{FileKind}
 use Rattle.ras_cli.specs.declared.files.FileKind.TheVariants as files
 use Rattle.ras_cli.specs.declared.status.Exit.{Exit}
@@ -24,7 +28,6 @@ use Rattle.ras_cli.specs.declared.status.Exit.TheVariants as exits
 use Rattle.ras_cli.specs.Files.{limit_of}
 use Rattle.ras_cli.specs.Status.{code_of}
 use Rattle.ras_cli.specs.Refusals.{usage, too_long, image_refused, script_line}
-use Rattle.ras_cli.specs.Report.{report_of}
 
 -- ---- plans
 
@@ -74,14 +77,14 @@ abbrev pub named_plan : FileKind → Option Bytes → Plan Bytes
 named_plan file None = Done []
 named_plan file (Some name) = file_plan file name
 
--- ---- what a run asks for
+-- ---- what a run of the machine asks for
 
 -- its settings
-abbrev pub settings_of : Run → Settings
-settings_of run = record { ram_mib = run.ram_mib; poll = 0; patrol = 0; budget = run.budget }
+abbrev pub settings_of : MachineRequest → Settings
+settings_of run = record { ram_mib = run.ram_mib; harts = run.harts; poll = run.poll; patrol = run.patrol; budget = run.budget }
 
 -- how many words of 8 bytes its RAM has
-abbrev pub run_ram_words : Run → ℕ
+abbrev pub run_ram_words : MachineRequest → ℕ
 run_ram_words run = ram_words (settings_of run)
 
 -- ---- what is read, in this order
@@ -92,11 +95,11 @@ accepted_image (Ok image) = Done image
 accepted_image (Error refusal) = Refuse (image_refused refusal)
 
 -- the image that bytes are
-abbrev pub image_in : Run → Bytes → Plan Program
+abbrev pub image_in : MachineRequest → Bytes → Plan Program
 image_in run bytes = accepted_image (image_of run.raw bytes (run_ram_words run))
 
 -- the image of a run
-abbrev pub image_plan : Run → Plan Program
+abbrev pub image_plan : MachineRequest → Plan Program
 image_plan run = file_plan files.Image run.image >>= image_in run
 
 -- the lines of a script that is accepted, or the line of its refusal
@@ -105,27 +108,31 @@ accepted_lines (Ok lines) = Done lines
 accepted_lines (Error refusal) = Refuse (script_line refusal)
 
 -- the lines that a text has
-abbrev pub lines_of : Run → Bytes → Plan (List ScriptLine)
+abbrev pub lines_of : MachineRequest → Bytes → Plan (List ScriptLine)
 lines_of run text = accepted_lines (lines_in (run_ram_words run) text)
 
 -- the lines of a run's script
-abbrev pub script_plan : Run → Plan (List ScriptLine)
+abbrev pub script_plan : MachineRequest → Plan (List ScriptLine)
 script_plan run = named_plan files.Script run.script >>= lines_of run
 
 -- the input of a run
-abbrev pub input_plan : Run → Plan Bytes
+abbrev pub input_plan : MachineRequest → Plan Bytes
 input_plan run = named_plan files.Input run.input
+
+-- the schedule of a run
+abbrev pub schedule_plan : MachineRequest → Plan Bytes
+schedule_plan run = named_plan files.Schedule run.schedule
 
 -- what a run has read
 pub record RunInputs : Type 0 where
   pub image : Program
   pub lines : List ScriptLine
-  pub input : Bytes
+  pub given : Given
 
 -- all that a run reads
-abbrev pub inputs_plan : Run → Plan RunInputs
-inputs_plan run = image_plan run >>= (λ image. script_plan run >>= (λ lines. input_plan run >>= (λ input.
-    Done (record { image = image; lines = lines; input = input }))))
+abbrev pub inputs_plan : MachineRequest → Plan RunInputs
+inputs_plan run = image_plan run >>= (λ image. script_plan run >>= (λ lines. input_plan run >>= (λ input. schedule_plan run >>= (λ schedule.
+    Done (record { image = image; lines = lines; given = given_by input schedule })))))
 
 -- ---- what comes of it
 
@@ -136,27 +143,38 @@ exit_of (Reboot reboot_kind) = exits.Ended
 exit_of Budget = exits.Ended
 exit_of ConsoleFull = exits.Ended
 exit_of (Consumed w use_kind pc) = exits.StoppedAtError
+exit_of (Injected bank rec) = exits.StoppedAtError
 
--- its status
-abbrev pub status_of : Stop → ℕ
-status_of stop = code_of (exit_of stop)
+-- a file that an option names is made
+abbrev pub named_file : Option Bytes → Bytes → List HostAction
+named_file None bytes = []
+named_file (Some name) bytes = Create name bytes ∷ []
 
--- what a run writes: the console to standard output, then the report to standard error
-abbrev pub outputs : Ending → ℕ → Option (ℕ × ℕ) → Bytes → ArchitecturalState → List HostAction
-outputs ending events beyond console hart = Out console ∷ Err (report_of ending events beyond hart) ∷ []
+-- what a run writes, in this order: the console to standard output, the files that it names, and the report to standard error
+abbrev pub pieces : RunRequest → (console records tables report : Bytes) → List HostAction
+pieces run console records tables report = Out console ∷ (named_file run.records records ++ (named_file run.tables tables ++ Err report ∷ []))
 
--- the outputs and the status of a run
-abbrev pub results_of : StackMachine → Planned
-results_of m = record { code = status_of (ending_in m).stop; actions = outputs (ending_in m) m.state.log m.state.beyond m.state.console (hart_at m.state.shared.harts 0) }
+-- the same of a run that ended so and left this error side, third flip, console and harts: the files are those of its records and of
+-- firmware's memory
+abbrev pub outputs : RunRequest → Ending → Firmware → Option (ℕ × ℕ) → Bytes → List ArchitecturalState → List HostAction
+outputs run ending firmware beyond console harts =
+    pieces run console (file_bytes firmware.records.views) (memory_bytes firmware.memory) (report_of ending firmware.records beyond harts run.machine.harts)
+
+-- the outputs and the status of a run that left this machine
+abbrev pub results_of : RunRequest → StackMachine → Planned
+results_of run m = record {
+  code = code_of (exit_of (ending_in m).stop);
+  actions = outputs run (ending_in m) m.state.firmware m.state.beyond m.state.console m.state.shared.harts;
+}
 
 -- the results of a run of what was read
-abbrev pub results_plan : Run → RunInputs → Plan Planned
-results_plan run inputs = Done (results_of (faulty_run inputs.image (settings_of run) inputs.input inputs.lines))
+abbrev pub results_plan : RunRequest → RunInputs → Plan Planned
+results_plan run inputs = Done (results_of run (faulty_run inputs.image (settings_of run.machine) inputs.given inputs.lines))
 
 -- the plan of a run that the words ask for; where they ask for none, the usage line is written
-abbrev pub plan_of : Option Run → Plan Planned
+abbrev pub plan_of : Option RunRequest → Plan Planned
 plan_of None = Done (line_written exits.Usage usage)
-plan_of (Some run) = inputs_plan run >>= results_plan run
+plan_of (Some run) = inputs_plan run.machine >>= results_plan run
 
 -- the host calls and the status that these words ask for over these files
 abbrev pub planned_by : List Bytes → List File → Planned

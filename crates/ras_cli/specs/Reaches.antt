@@ -3,6 +3,7 @@ use Rattle.std.specs.Prelude.{◌≡◌, ℕ, IfSome, cond, List, [], ◌∷◌,
 use Rattle.elf_load.specs.Program.{Program}
 use Rattle.fault_script.specs.Steps.{InRisingSteps}
 use Rattle.fault_script.specs.declared.lines.ScriptLine.{ScriptLine}
+use Rattle.ras_machine.specs.Schedule.{Given}
 use Rattle.ras_host.specs.Told.{Bytes, Outside, HostAction, Performs, Read, File, bytes_of}
 use Rattle.ras_cli.specs.Files.{limit_of}
 use Rattle.ras_cli.specs.Status.{IsRefusal}
@@ -51,7 +52,7 @@ pub record ReachesScript (plan : Plan (List ScriptLine)) (before after : Outside
   pub reached : Reaches plan before after lines
 
 -- all that a run reads was read
-pub record ReachesInputs (plan : Plan RunInputs) (before after : Outside) (image : Program) (script : List ScriptLine) (input : Bytes) : Type 0 where
+pub record ReachesInputs (plan : Plan RunInputs) (before after : Outside) (image : Program) (script : List ScriptLine) (given : Given) : Type 0 where
   pub lines : List ScriptLine
   pub rising : InRisingSteps lines script
-  pub reached : Reaches plan before after (record { image = image; lines = lines; input = input })
+  pub reached : Reaches plan before after (record { image = image; lines = lines; given = given })

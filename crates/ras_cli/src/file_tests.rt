@@ -1,4 +1,4 @@
-//! Files that are refused by their rules, an executable as a linker makes it, and hosts whose calls fail.
+//! Files that are refused by their rules, and an executable as a linker makes it.
 
 use crate::helpers::{called, host_of};
 use ras_bits::NoMemory;
@@ -159,44 +159,12 @@ fn takes_an_executable_as_a_linker_makes_it(rt: HostRuntime) -> Result<(), Fail>
     assert_eq!(rt; called(alloc, "run image --ram-mib 1", &mut host)?, 0);
     assert!(rt; host.written_out() == b"ok\n".as_slice());
     assert!(rt;
-        host.written_err()
-            .starts_with(b"stop=shutdown:0 steps=15 events=0 beyond=none\nregs ")
+        host.written_err().starts_with(
+            b"stop=shutdown:0 steps=15 records=0 dropped=0 beyond=none\nregs "
+        )
     );
     let mut host = host_of(alloc, &[("image", cut(file.as_slice()))])?;
     assert_eq!(rt; called(alloc, "run image --ram-mib 1", &mut host)?, 2);
     assert!(rt; host.written_err() == b"ras: image refused: headers\n".as_slice());
-    Ok(())
-}
-
-// The calls are the reads of the image, of the script and of the input, which is the same file, the write of the console and
-// that of the report.
-#[test]
-fn stops_at_the_call_that_fails(rt: HostRuntime) -> Result<(), Fail> {
-    let alloc = rt.alloc();
-    for (call, code, out, calls) in [
-        (0, 3, "", 1),
-        (1, 3, "", 2),
-        (2, 3, "", 3),
-        (3, 3, "", 4),
-        (4, 3, "ok\n", 5),
-        (5, 0, "ok\n", 5),
-    ] {
-        let data = Segment {
-            offset: 460,
-            address: 0x8000_1000,
-            file: 4,
-            memory: 64,
-            ..CODE
-        };
-        let file = elf_of(alloc, HEADER, &[CODE, data])?;
-        let files: [(&str, &[u8]); 2] = [("image", file.as_slice()), ("empty", &[])];
-        let mut host = host_of(alloc, &files)?;
-        host.fail_at(call)?;
-        let line = "run image --script empty --input empty --ram-mib 1";
-        assert_eq!(rt; called(alloc, line, &mut host)?, code, "{call}");
-        assert!(rt; host.written_out() == out.as_bytes(), "{call}");
-        assert_eq!(rt; host.written_err().is_empty(), code == 3, "{call}");
-        assert_eq!(rt; host.calls(), calls, "{call}");
-    }
     Ok(())
 }

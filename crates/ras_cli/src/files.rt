@@ -3,7 +3,7 @@
 ghost use Rattle.std.specs.Prelude.{◌≡◌, ◌≤◌, length};
 ghost use Rattle.ras_cli.specs.Files.{limit_of, word_of};
 
-use ras_words::{IMAGE_LIMIT, INPUT_LIMIT, SCRIPT_LIMIT};
+use ras_words::{IMAGE_LIMIT, INPUT_LIMIT, SCHEDULE_LIMIT, SCRIPT_LIMIT};
 
 /// A file that a command reads.
 #[derive(Clone, Copy)]
@@ -11,6 +11,7 @@ pub enum FileKind {
     Image,
     Script,
     Input,
+    Schedule,
 }
 
 impl FileKind {
@@ -22,6 +23,7 @@ impl FileKind {
             FileKind::Image => IMAGE_LIMIT,
             FileKind::Script => SCRIPT_LIMIT,
             FileKind::Input => INPUT_LIMIT,
+            FileKind::Schedule => SCHEDULE_LIMIT,
         }
     }
 
@@ -34,6 +36,7 @@ impl FileKind {
             FileKind::Image => b"image",
             FileKind::Script => b"script",
             FileKind::Input => b"input",
+            FileKind::Schedule => b"schedule",
         }
     }
 }

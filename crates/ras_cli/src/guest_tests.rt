@@ -78,7 +78,7 @@ fn runs_guests(rt: HostRuntime) -> Result<(), Fail> {
             "100",
             0,
             b"k",
-            "stop=shutdown:0 steps=6 events=0 beyond=none\nregs pc=0x0000000080000018 x17=0x0000000000000008\n",
+            "stop=shutdown:0 steps=6 records=0 dropped=0 beyond=none\nregs pc=0x0000000080000018 x17=0x0000000000000008\n",
         ),
         (
             "the input's end",
@@ -89,7 +89,7 @@ fn runs_guests(rt: HostRuntime) -> Result<(), Fail> {
             "100",
             0,
             &[0xFF],
-            "stop=shutdown:0 steps=6 events=0 beyond=none\nregs pc=0x0000000080000018 x17=0x0000000000000008\n",
+            "stop=shutdown:0 steps=6 records=0 dropped=0 beyond=none\nregs pc=0x0000000080000018 x17=0x0000000000000008\n",
         ),
         (
             "a trap to an address outside RAM",
@@ -100,7 +100,7 @@ fn runs_guests(rt: HostRuntime) -> Result<(), Fail> {
             "3",
             0,
             b"",
-            "stop=budget steps=3 events=0 beyond=none\nregs pc=0x0000000000000000\n",
+            "stop=budget steps=3 records=0 dropped=0 beyond=none\nregs pc=0x0000000000000000\n",
         ),
         (
             "a console write",
@@ -111,7 +111,7 @@ fn runs_guests(rt: HostRuntime) -> Result<(), Fail> {
             "100",
             0,
             &[0; 16],
-            "stop=shutdown:0 steps=8 events=0 beyond=none\nregs pc=0x0000000080000020 x11=0x0000000000000010 x17=0x0000000000000008\n",
+            "stop=shutdown:0 steps=8 records=0 dropped=0 beyond=none\nregs pc=0x0000000080000020 x11=0x0000000000000010 x17=0x0000000000000008\n",
         ),
         (
             "a console write that meets poison",
@@ -122,7 +122,7 @@ fn runs_guests(rt: HostRuntime) -> Result<(), Fail> {
             "100",
             5,
             b"",
-            "stop=consumed:0x0000000080000048:sbi:0x0000000080000014 steps=5 events=1 beyond=none\nregs pc=0x0000000080000014 x10=0x0000000000000010 x11=0x0000000080000040 x17=0x000000004442434e\n",
+            "stop=consumed:0x0000000080000048:sbi:0x0000000080000014 steps=5 records=2 dropped=0 beyond=none\nregs pc=0x0000000080000014 x10=0x0000000000000010 x11=0x0000000080000040 x17=0x000000004442434e\n",
         ),
         (
             "a reboot",
@@ -133,7 +133,7 @@ fn runs_guests(rt: HostRuntime) -> Result<(), Fail> {
             "100",
             0,
             b"",
-            "stop=reboot:1 steps=6 events=0 beyond=none\nregs pc=0x0000000080000018 x10=0x0000000000000001 x17=0x0000000053525354\n",
+            "stop=reboot:1 steps=6 records=0 dropped=0 beyond=none\nregs pc=0x0000000080000018 x10=0x0000000000000001 x17=0x0000000053525354\n",
         ),
         (
             "a page of one gigabyte",
@@ -144,7 +144,7 @@ fn runs_guests(rt: HostRuntime) -> Result<(), Fail> {
             "100",
             0,
             b"",
-            "stop=budget steps=100 events=0 beyond=none\nregs pc=0x0000000080000018 x5=0x8000000000080001 x6=0x0000000000080001\n",
+            "stop=budget steps=100 records=0 dropped=0 beyond=none\nregs pc=0x0000000080000018 x5=0x8000000000080001 x6=0x0000000000080001\n",
         ),
         (
             "a poisoned page-table entry",
@@ -155,7 +155,7 @@ fn runs_guests(rt: HostRuntime) -> Result<(), Fail> {
             "100",
             5,
             b"",
-            "stop=consumed:0x0000000080001010:walk:0x0000000080000018 steps=6 events=1 beyond=none\nregs pc=0x0000000080000018 x5=0x8000000000080001 x6=0x0000000000080001\n",
+            "stop=consumed:0x0000000080001010:walk:0x0000000080000018 steps=6 records=2 dropped=0 beyond=none\nregs pc=0x0000000080000018 x5=0x8000000000080001 x6=0x0000000000080001\n",
         ),
         (
             "a table that points to itself",
@@ -166,7 +166,7 @@ fn runs_guests(rt: HostRuntime) -> Result<(), Fail> {
             "10",
             0,
             b"",
-            "stop=budget steps=10 events=0 beyond=none\nregs pc=0x0000000000000000 x5=0x8000000000080001 x6=0x0000000000080001\n",
+            "stop=budget steps=10 records=0 dropped=0 beyond=none\nregs pc=0x0000000000000000 x5=0x8000000000080001 x6=0x0000000000080001\n",
         ),
         (
             "an atomic operation on a poisoned word",
@@ -177,7 +177,7 @@ fn runs_guests(rt: HostRuntime) -> Result<(), Fail> {
             "100",
             5,
             b"",
-            "stop=consumed:0x0000000080000040:amo:0x0000000080000008 steps=2 events=1 beyond=none\nregs pc=0x0000000080000008 x5=0x0000000080000040\n",
+            "stop=consumed:0x0000000080000040:amo:0x0000000080000008 steps=2 records=2 dropped=0 beyond=none\nregs pc=0x0000000080000008 x5=0x0000000080000040\n",
         ),
         (
             "code that rewrites itself",
@@ -188,7 +188,7 @@ fn runs_guests(rt: HostRuntime) -> Result<(), Fail> {
             "100",
             0,
             b"H",
-            "stop=shutdown:0 steps=9 events=0 beyond=none\nregs pc=0x0000000080000024 x5=0x0000000080000000 x17=0x0000000000000008\n",
+            "stop=shutdown:0 steps=9 records=0 dropped=0 beyond=none\nregs pc=0x0000000080000024 x5=0x0000000080000000 x17=0x0000000000000008\n",
         ),
     ];
     for (name, words, far, script, input, budget, code, out, err) in rows {
@@ -219,7 +219,7 @@ fn stops_where_the_console_is_full(rt: HostRuntime) -> Result<(), Fail> {
     assert_eq!(rt; host.written_out().len(), 1_048_576);
     assert!(rt;
         host.written_err()
-            == b"stop=console-full steps=1797 events=0 beyond=none\nregs pc=0x0000000080000014 x10=0x0000000000001000 x11=0x0000000080000004 x17=0x000000004442434e\n".as_slice()
+            == b"stop=console-full steps=1797 records=0 dropped=0 beyond=none\nregs pc=0x0000000080000014 x10=0x0000000000001000 x11=0x0000000080000004 x17=0x000000004442434e\n".as_slice()
     );
     Ok(())
 }

@@ -1,11 +1,12 @@
-//! What a run reads: its image, its script and its input.
+//! What a run reads: its image, its script, its input and its schedule.
 
 ghost use Rattle.std.specs.Prelude.{◌≡◌, ◌≤◌, ◌<◌, ◌^◌, Ok, option_map, length, IfOk, IfErr};
 ghost use Rattle.std.specs.Prelude.{Result, Err as Error};
 ghost use Rattle.elf_load.specs.declared.refusals.ElfRefused.{ElfRefused};
 ghost use Rattle.elf_load.specs.Program.{Program, image_of, AnswersOrNoMemory};
 ghost use Rattle.fault_script.specs.Fits.{IsScriptFor};
-ghost use Rattle.ras_words.specs.Read.{run_in, IsInLimits};
+ghost use Rattle.ras_words.specs.Read.{machine_in, IsInLimits};
+ghost use Rattle.ras_cli.specs.Inputs.{given_in};
 ghost use Rattle.ras_cli.specs.Files.{limit_of};
 ghost use Rattle.ras_cli.specs.Plan.{accepted_image, run_ram_words, file_plan, named_plan, image_in, image_plan};
 ghost use Rattle.ras_cli.specs.Plan.{input_plan, inputs_plan, lines_of, script_plan};
@@ -28,6 +29,7 @@ pub struct Inputs {
     pub image: Image,
     pub script: Script,
     pub input: Vec<u8>,
+    pub schedule: Vec<u8>,
 }
 
 // Reads a file, which is refused by a line where it is longer than its limit.
@@ -80,8 +82,9 @@ fn read_named<H: Host>(
 fn image_in(alloc: Global, run: MachineWords<'_>, bytes: &[u8]) -> Result<Image, ElfRefused>
     requires { IsInLimits run }
     ensures image { AnswersOrNoMemory
-        (image_of run.entry.raw bytes.now (run_ram_words (run_in run.entry))) result }
-    ensures room { IfOk result (λ image. length image.words ≡ run_ram_words (run_in run.entry)) }
+        (image_of run.entry.raw bytes.now (run_ram_words (machine_in run.entry))) result }
+    ensures room { IfOk result
+        (λ image. length image.words ≡ run_ram_words (machine_in run.entry)) }
 {
     if run.raw {
         Image::raw(alloc, bytes, run_ram_words(run))
@@ -112,10 +115,12 @@ fn accept_image<H: Host>(
 ) -> Result<Image, Status>
     requires { IsInLimits run }
     ensures reached { IfOk result (λ image.
-        Reaches (image_in (run_in run.entry) bytes.now) (H.told host.old) (H.told host.new) image) }
-    ensures room { IfOk result (λ image. length image.words ≡ run_ram_words (run_in run.entry)) }
+        Reaches (image_in (machine_in run.entry) bytes.now) (H.told host.old)
+        (H.told host.new) image) }
+    ensures room { IfOk result
+        (λ image. length image.words ≡ run_ram_words (machine_in run.entry)) }
     ensures stopped { IfErr result (λ status.
-        Stops (image_in (run_in run.entry) bytes.now) (H.told host.old) (H.told host.new)
+        Stops (image_in (machine_in run.entry) bytes.now) (H.told host.old) (H.told host.new)
         (H.faults host.old) (H.faults host.new) status.code) }
     ensures later { H.faults host.old ≤ H.faults host.new }
 {
@@ -129,10 +134,11 @@ fn accept_image<H: Host>(
 fn read_image<H: Host>(alloc: Global, run: MachineWords<'_>, host: &mut H) -> Result<Image, Status>
     requires { IsInLimits run }
     ensures reached { IfOk result (λ image.
-        Reaches (image_plan (run_in run.entry)) (H.told host.old) (H.told host.new) image) }
-    ensures room { IfOk result (λ image. length image.words ≡ run_ram_words (run_in run.entry)) }
+        Reaches (image_plan (machine_in run.entry)) (H.told host.old) (H.told host.new) image) }
+    ensures room { IfOk result
+        (λ image. length image.words ≡ run_ram_words (machine_in run.entry)) }
     ensures stopped { IfErr result (λ status.
-        Stops (image_plan (run_in run.entry)) (H.told host.old) (H.told host.new)
+        Stops (image_plan (machine_in run.entry)) (H.told host.old) (H.told host.new)
         (H.faults host.old) (H.faults host.new) status.code) }
     ensures later { H.faults host.old ≤ H.faults host.new }
 {
@@ -152,10 +158,12 @@ fn accept_script<H: Host>(
     requires limits { IsInLimits run }
     requires text { length text.now < 2 ^ 32 }
     ensures reached { IfOk result (λ script.
-        ReachesScript (lines_of (run_in run.entry) text.now) (H.told host.old) (H.told host.new) script) }
-    ensures script { IfOk result (IsScriptFor (run_ram_words (run_in run.entry))) }
+        ReachesScript (lines_of (machine_in run.entry) text.now) (H.told host.old)
+        (H.told host.new) script.lines) }
+    ensures script { IfOk result
+        (λ script. IsScriptFor (run_ram_words (machine_in run.entry)) script.lines) }
     ensures stopped { IfErr result (λ status.
-        Stops (lines_of (run_in run.entry) text.now) (H.told host.old) (H.told host.new)
+        Stops (lines_of (machine_in run.entry) text.now) (H.told host.old) (H.told host.new)
         (H.faults host.old) (H.faults host.new) status.code) }
     ensures later { H.faults host.old ≤ H.faults host.new }
 {
@@ -176,10 +184,12 @@ fn read_script<H: Host>(
 ) -> Result<Script, Status>
     requires { IsInLimits run }
     ensures reached { IfOk result (λ script.
-        ReachesScript (script_plan (run_in run.entry)) (H.told host.old) (H.told host.new) script) }
-    ensures script { IfOk result (IsScriptFor (run_ram_words (run_in run.entry))) }
+        ReachesScript (script_plan (machine_in run.entry)) (H.told host.old)
+        (H.told host.new) script.lines) }
+    ensures script { IfOk result
+        (λ script. IsScriptFor (run_ram_words (machine_in run.entry)) script.lines) }
     ensures stopped { IfErr result (λ status.
-        Stops (script_plan (run_in run.entry)) (H.told host.old) (H.told host.new)
+        Stops (script_plan (machine_in run.entry)) (H.told host.old) (H.told host.new)
         (H.faults host.old) (H.faults host.new) status.code) }
     ensures later { H.faults host.old ≤ H.faults host.new }
 {
@@ -189,8 +199,9 @@ fn read_script<H: Host>(
     }
 }
 
-/// Reads the image, the script and the input of a run, in this order. The first that is longer than its limit, or is
-/// refused, has its line written, and the run ends with the status that is answered.
+/// Reads the image, the script, the input and the schedule of a run, in this order. The first that
+/// is longer than its limit, or is refused, has its line written, and the run ends with the status
+/// that is answered.
 pub fn read_inputs<H: Host>(
     alloc: Global,
     run: MachineWords<'_>,
@@ -198,23 +209,26 @@ pub fn read_inputs<H: Host>(
 ) -> Result<Inputs, Status>
     requires { IsInLimits run }
     ensures reached { IfOk result (λ inputs.
-        ReachesInputs (inputs_plan (run_in run.entry)) (H.told host.old) (H.told host.new)
-        inputs.image inputs.script inputs.input.items) }
+        ReachesInputs (inputs_plan (machine_in run.entry)) (H.told host.old) (H.told host.new)
+        inputs.image inputs.script.lines
+        (given_in inputs)) }
     ensures room { IfOk result (λ inputs.
-        length inputs.image.words ≡ run_ram_words (run_in run.entry)) }
+        length inputs.image.words ≡ run_ram_words (machine_in run.entry)) }
     ensures script { IfOk result (λ inputs.
-        IsScriptFor (run_ram_words (run_in run.entry)) inputs.script) }
+        IsScriptFor (run_ram_words (machine_in run.entry)) inputs.script.lines) }
     ensures stopped { IfErr result (λ status.
-        Stops (inputs_plan (run_in run.entry)) (H.told host.old) (H.told host.new)
+        Stops (inputs_plan (machine_in run.entry)) (H.told host.old) (H.told host.new)
         (H.faults host.old) (H.faults host.new) status.code) }
     ensures later { H.faults host.old ≤ H.faults host.new }
 {
     let image = read_image(alloc, run, host)?;
     let script = read_script(alloc, run, host)?;
     let input = read_named(alloc, FileKind::Input, run.input, host)?;
+    let schedule = read_named(alloc, FileKind::Schedule, run.schedule, host)?;
     Ok(Inputs {
         image,
         script,
         input,
+        schedule,
     })
 }

@@ -1,4 +1,5 @@
-//! The program `ras`: an image is run under a script of faults, and its console and a report are written.
+//! The program `ras`: an image is run under a script of faults, and its console, its error records
+//! and a report are written.
 //!
 //! `main` takes the words of the command line and makes the host. All else is `ras_main`.
 #![tactic(auto)]
@@ -12,8 +13,9 @@ mod guest_tests;
 mod helpers;
 mod inputs;
 mod machine;
+#[cfg(test)]
+mod record_tests;
 mod refusals;
-mod report;
 mod settings;
 mod status;
 #[cfg(test)]

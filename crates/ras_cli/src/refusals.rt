@@ -87,6 +87,9 @@ fn why_text(why: Why) -> &'static [u8]
         Why::Number => b"number",
         Why::Address => b"address",
         Why::Bit => b"bit",
+        Why::Bank => b"bank",
+        Why::Class => b"class",
+        Why::Delay => b"delay",
         Why::Step => b"step",
         Why::TooMany => b"toomany",
     }

@@ -1,4 +1,4 @@
-//! Text that is made before it is written.
+//! Lines that are made before they are written.
 
 ghost use Rattle.std.specs.Prelude.{◌≡◌, ◌+◌, ◌≤◌, ◌++◌, length};
 ghost use Rattle.std.specs.Fmt.{decimal};
@@ -8,10 +8,10 @@ ghost use Rattle.ras_cli.specs.declared.text.TheConstants.{TEXT_ROOM};
 use arrayvec::ArrayVec;
 use itoa::Buffer;
 
-/// The most bytes of a text, which no line and no report passes.
-pub const TEXT_ROOM: usize = 2_048;
+/// The most bytes of a line.
+pub const TEXT_ROOM: usize = 256;
 
-/// A text of at most so many bytes.
+/// The text of a line.
 pub type Text = ArrayVec<u8, TEXT_ROOM>;
 
 /// Appends bytes that fit.

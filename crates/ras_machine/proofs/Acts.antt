@@ -6,11 +6,11 @@ use Rattle.poison_mem.specs.Bus.{BusMeaning}
 use Rattle.poison_mem.specs.Cells.{CellsKeepCounts, is_third, raised_at}
 use Rattle.poison_mem.specs.Flips.{FlipMeaning, IsFaithful}
 use Rattle.fault_script.specs.declared.lines.Act.{Act}
-use Rattle.fault_script.specs.declared.lines.Act.TheVariants.{Flip, Scrub}
+use Rattle.fault_script.specs.declared.lines.Act.TheVariants.{Flip, Scrub, Inject, Control}
 use Rattle.fault_script.specs.declared.lines.ScriptLine.{ScriptLine}
 use Rattle.fault_script.specs.Fits.{FitsRam, FitsRamAct}
 use Rattle.ras_machine.specs.declared.state.MachineState.{MachineState}
-use Rattle.ras_machine.specs.Machine.{or_else, struck, third_flip, act_done, lines_done}
+use Rattle.ras_machine.specs.Actions.{or_else, struck, third_flip, act_done, lines_acted}
 use Rattle.ras_machine.specs.Since.{is_flip_of}
 use Rattle.ras_machine.specs.TwoRuns.{StandsFor}
 use Rattle.ras_machine.proofs.Counting.{flips_of, count-cons, raised_most}
@@ -25,35 +25,39 @@ second_none None false x h = refl
 second_none (Some y) b x h = cc
 
 module _ {B : Type 0} (bus : BusMeaning B) (flips : FlipMeaning B) (stands : B → (ℕ → ℕ) → (ℕ → ℕ) → Type 0) where
-  -- lines leave the harts, the place in the input, the console and the number of steps
-  pub lines_harts : (lines : List ScriptLine) (s : MachineState B) → (lines_done flips lines s).shared.harts ≡ s.shared.harts
+  -- lines leave the harts, the place in the input, the console, the patrol and the number of steps
+  pub lines_harts : (lines : List ScriptLine) (s : MachineState B) → (lines_acted flips lines s).after.shared.harts ≡ s.shared.harts
   lines_harts [] s = refl
-  lines_harts (line ∷ lines) s = lines_harts lines (act_done flips line.act s)
+  lines_harts (line ∷ lines) s = lines_harts lines (act_done flips line.act s).after
 
-  pub lines_place : (lines : List ScriptLine) (s : MachineState B) → (lines_done flips lines s).place ≡ s.place
+  pub lines_place : (lines : List ScriptLine) (s : MachineState B) → (lines_acted flips lines s).after.place ≡ s.place
   lines_place [] s = refl
-  lines_place (line ∷ lines) s = lines_place lines (act_done flips line.act s)
+  lines_place (line ∷ lines) s = lines_place lines (act_done flips line.act s).after
 
-  pub lines_console : (lines : List ScriptLine) (s : MachineState B) → (lines_done flips lines s).console ≡ s.console
+  pub lines_console : (lines : List ScriptLine) (s : MachineState B) → (lines_acted flips lines s).after.console ≡ s.console
   lines_console [] s = refl
-  lines_console (line ∷ lines) s = lines_console lines (act_done flips line.act s)
+  lines_console (line ∷ lines) s = lines_console lines (act_done flips line.act s).after
 
-  pub lines_steps : (lines : List ScriptLine) (s : MachineState B) → (lines_done flips lines s).steps ≡ s.steps
+  pub lines_patrol : (lines : List ScriptLine) (s : MachineState B) → (lines_acted flips lines s).after.patrol ≡ s.patrol
+  lines_patrol [] s = refl
+  lines_patrol (line ∷ lines) s = lines_patrol lines (act_done flips line.act s).after
+
+  pub lines_steps : (lines : List ScriptLine) (s : MachineState B) → (lines_acted flips lines s).after.steps ≡ s.steps
   lines_steps [] s = refl
-  lines_steps (line ∷ lines) s = lines_steps lines (act_done flips line.act s)
+  lines_steps (line ∷ lines) s = lines_steps lines (act_done flips line.act s).after
 
   -- what was found stays found
-  pub lines_none : (lines : List ScriptLine) (s : MachineState B) → (lines_done flips lines s).beyond ≡ None → s.beyond ≡ None
+  pub lines_none : (lines : List ScriptLine) (s : MachineState B) → (lines_acted flips lines s).after.beyond ≡ None → s.beyond ≡ None
   lines_none [] s none = none
   lines_none (line ∷ lines) s none =
-      first_none s.beyond (third_flip flips s.steps line.act s.shared.memory) (lines_none lines (act_done flips line.act s) none)
+      first_none s.beyond (third_flip flips s.steps line.act s.shared.memory) (lines_none lines (act_done flips line.act s).after none)
 
   -- a state stands for the same words within more flips
   pub more_flips : IsFaithful bus flips stands → (ram : List ℕ) (q r : ℕ → ℕ) (b : B) → ((w : ℕ) → q w ≤ r w) → StandsFor bus stands ram q b → StandsFor bus stands ram r b
   more_flips faithful ram q r b up it = record { words = it.words; each = faithful.same b _ _ q r it.each (λ w inside. refl) (λ w inside. up w) }
 
   act_stands : CellsKeepCounts bus.words flips.cells → IsFaithful bus flips stands → (act : Act) (ram : List ℕ) (q : ℕ → ℕ) (s : MachineState B)
-      → FitsRamAct (length ram) act → (act_done flips act s).beyond ≡ None
+      → FitsRamAct (length ram) act → (act_done flips act s).after.beyond ≡ None
       → StandsFor bus stands ram q s.shared.memory → StandsFor bus stands ram (λ w. q w + cond (is_flip_of w act) 1 0) (struck flips act s.shared.memory)
   act_stands keeps faithful (Flip u bit) ram q s fits none it =
       let inside : u < bus.words s.shared.memory = let same = it.words in let there = fits.0 in omega arith in
@@ -66,13 +70,15 @@ module _ {B : Type 0} (bus : BusMeaning B) (flips : FlipMeaning B) (stands : B �
       let inside : u < bus.words s.shared.memory = let same = it.words in omega arith in
       more_flips faithful ram q _ _ (λ w. omega arith)
       (record { words = keeps.scrub_words s.shared.memory u ∙ it.words; each = faithful.scrub_keeps s.shared.memory u _ q inside it.each })
+  act_stands keeps faithful (Inject bank rec class delay addr) ram q s fits none it = more_flips faithful ram q _ _ (λ w. omega arith) it
+  act_stands keeps faithful (Control bank rec value) ram q s fits none it = more_flips faithful ram q _ _ (λ w. omega arith) it
 
   -- lines keep what the memory stands for, where none of them is a third flip
   pub lines_stand : CellsKeepCounts bus.words flips.cells → IsFaithful bus flips stands → (lines : List ScriptLine) (ram : List ℕ) (q : ℕ → ℕ) (s : MachineState B)
-      → AllByRecursion (FitsRam (length ram)) lines → (lines_done flips lines s).beyond ≡ None
-      → StandsFor bus stands ram q s.shared.memory → StandsFor bus stands ram (λ w. q w + flips_of w lines) (lines_done flips lines s).shared.memory
+      → AllByRecursion (FitsRam (length ram)) lines → (lines_acted flips lines s).after.beyond ≡ None
+      → StandsFor bus stands ram q s.shared.memory → StandsFor bus stands ram (λ w. q w + flips_of w lines) (lines_acted flips lines s).after.shared.memory
   lines_stand keeps faithful [] ram q s fits none it = more_flips faithful ram q _ _ (λ w. omega arith) it
   lines_stand keeps faithful (line ∷ lines) ram q s fits none it =
-      let here = act_stands keeps faithful line.act ram q s fits.0.1 (lines_none lines (act_done flips line.act s) none) it in
+      let here = act_stands keeps faithful line.act ram q s fits.0.1 (lines_none lines (act_done flips line.act s).after none) it in
       more_flips faithful ram _ _ _ (λ w. let all = count-cons (λ line. is_flip_of w line.act) line lines in omega arith)
-      (lines_stand keeps faithful lines ram (λ w. q w + cond (is_flip_of w line.act) 1 0) (act_done flips line.act s) fits.1 none here)
+      (lines_stand keeps faithful lines ram (λ w. q w + cond (is_flip_of w line.act) 1 0) (act_done flips line.act s).after fits.1 none here)

@@ -7,6 +7,7 @@ use Rattle.poison_mem.specs.Cells.{raised_at}
 use Rattle.fault_script.specs.declared.lines.ScriptLine.{ScriptLine}
 use Rattle.fault_script.specs.Steps.{at_step}
 use Rattle.ras_machine.specs.Flat.{FlatState, flat_after}
+use Rattle.ras_machine.specs.Schedule.{Given}
 use Rattle.ras_machine.specs.Since.{is_flip_of, flips_between, last_whole_store, step_after, stores_whole, stores_in, since, since_before}
 
 -- how many of these lines flip a word
@@ -56,17 +57,17 @@ step_by true o n low = omega arith
 step_by false o n low = omega arith
 
 -- counting begins at step n at the latest
-pub counted_from : (input : List ℕ) (start : FlatState) (w n : ℕ) → step_after (last_whole_store input start w n) ≤ n
+pub counted_from : (given : Given) (start : FlatState) (w n : ℕ) → step_after (last_whole_store given start w n) ≤ n
 unfolding last_whole_store
-counted_from input start w zero = omega arith
-counted_from input start w (suc n) =
-    let before = counted_from input start w n in
-    let low = step_by (stores_whole w (stores_in input n (flat_after input start n))) (last_whole_store input start w n) n before in
+counted_from given start w zero = omega arith
+counted_from given start w (suc n) =
+    let before = counted_from given start w n in
+    let low = step_by (stores_whole w (stores_in given n (flat_after given start n))) (last_whole_store given start w n) n before in
     omega arith
 
 -- the flips of a step are added
-pub since_adds : (input : List ℕ) (start : FlatState) (script : List ScriptLine) (n w : ℕ) → since_before input start script n w + flips_of w (at_step n script) ≡ since input start script n w
-since_adds input start script n w = sym (flips_split w (step_after (last_whole_store input start w n)) n script (counted_from input start w n))
+pub since_adds : (given : Given) (start : FlatState) (script : List ScriptLine) (n w : ℕ) → since_before given start script n w + flips_of w (at_step n script) ≡ since given start script n w
+since_adds given start script n w = sym (flips_split w (step_after (last_whole_store given start w n)) n script (counted_from given start w n))
 
 begun_by : (b : Bool) (o : Option ℕ) (script : List ScriptLine) (w n : ℕ)
     → flips_between script w (step_after (if b then Some n else o)) (n + 1) ≡ (if b then 0 else flips_between script w (step_after o) (n + 1))
@@ -74,12 +75,12 @@ begun_by true o script w n = none_between script w (n + 1)
 begun_by false o script w n = refl
 
 -- a whole store begins the count anew
-pub since_begins : (input : List ℕ) (start : FlatState) (script : List ScriptLine) (n w : ℕ)
-    → since_before input start script (suc n) w ≡ (if stores_whole w (stores_in input n (flat_after input start n)) then 0 else since input start script n w)
+pub since_begins : (given : Given) (start : FlatState) (script : List ScriptLine) (n w : ℕ)
+    → since_before given start script (suc n) w ≡ (if stores_whole w (stores_in given n (flat_after given start n)) then 0 else since given start script n w)
 unfolding last_whole_store
-since_begins input start script n w =
-    ap (λ m. flips_between script w (step_after (last_whole_store input start w (suc n))) m) (sym (add-one n))
-    ∙ begun_by (stores_whole w (stores_in input n (flat_after input start n))) (last_whole_store input start w n) script w n
+since_begins given start script n w =
+    ap (λ m. flips_between script w (step_after (last_whole_store given start w (suc n))) m) (sym (add-one n))
+    ∙ begun_by (stores_whole w (stores_in given n (flat_after given start n))) (last_whole_store given start w n) script w n
 
 fewer_one : (flips within : Bool) → cond {A = ℕ} (flips && within) 1 0 ≤ cond flips 1 0
 fewer_one true true = omega arith

@@ -11,13 +11,13 @@ use Rattle.poison_mem.specs.CellsLaws.{third_counts_two}
 use Rattle.poison_mem.specs.Flips.{FlipMeaning, WordsKeepCounts}
 use Rattle.poison_mem.specs.Asking.{Asking, Answer, Ask, Played, Ended, Poisoned, by_cell, bus_of, play}
 use Rattle.fault_script.specs.declared.lines.Act.{Act}
-use Rattle.fault_script.specs.declared.lines.Act.TheVariants.{Flip, Scrub}
+use Rattle.fault_script.specs.declared.lines.Act.TheVariants.{Flip, Scrub, Inject, Control}
 use Rattle.fault_script.specs.declared.lines.ScriptLine.{ScriptLine}
 use Rattle.rv64_hart.specs.Outcome.{Outcome, Store, has_room}
 use Rattle.rv64_hart.specs.Step.{stored}
 use Rattle.rv64_hart.specs.Harts.{HartsScene, harts_finished_by, harts_finished, harts_step_of}
 use Rattle.ras_machine.specs.declared.state.MachineState.{MachineState}
-use Rattle.ras_machine.specs.Machine.{or_else, struck, third_flip, act_done, lines_done}
+use Rattle.ras_machine.specs.Actions.{or_else, struck, third_flip, act_done, lines_acted}
 use Rattle.ras_machine.specs.Since.{is_flip_of, flips_between, ThirdTold}
 use Rattle.ras_machine.specs.TwoRuns.{CountsWithin}
 use Rattle.ras_machine.proofs.Counting.{flips_of, count-cons, raised_most}
@@ -31,6 +31,10 @@ told_first lines None true n u told found = λ m w is.
     subst (λ (x : ℕ × ℕ). 3 ≤ flips_between lines x.1 0 (x.0 + 1)) same (found refl)
 told_first lines None false n u told found = λ m w is. cc is
 
+told_none : (lines : List ScriptLine) (beyond : Option (ℕ × ℕ)) → ThirdTold lines beyond → ThirdTold lines (or_else beyond None)
+told_none lines (Some x) told = told
+told_none lines None told = told
+
 one_flip : (u : ℕ) → cond {A = ℕ} (u == u) 1 0 ≡ 1
 one_flip u = grind (arith, nat_tests)
 
@@ -42,14 +46,16 @@ module _ {B : Type 0} (bus : BusMeaning B) (flips : FlipMeaning B) (cells : Cell
       let before = within w in
       omega arith
   act_counts (Scrub u) q b within w = let scrubbed = cells.scrub b u w in let before = within w in omega arith
+  act_counts (Inject bank rec class delay addr) q b within w = let before = within w in omega arith
+  act_counts (Control bank rec value) q b within w = let before = within w in omega arith
 
   -- the lines of a step add their flips
   pub lines_count : (lines : List ScriptLine) (q : ℕ → ℕ) (s : MachineState B) → CountsWithin flips q s.shared.memory
-      → CountsWithin flips (λ w. q w + flips_of w lines) (lines_done flips lines s).shared.memory
+      → CountsWithin flips (λ w. q w + flips_of w lines) (lines_acted flips lines s).after.shared.memory
   lines_count [] q s within w = let before = within w in omega arith
   lines_count (line ∷ lines) q s within w =
       let all = count-cons (λ line. is_flip_of w line.act) line lines in
-      let rest = lines_count lines (λ k. q k + cond (is_flip_of k line.act) 1 0) (act_done flips line.act s) (act_counts line.act q s.shared.memory within) w in
+      let rest = lines_count lines (λ k. q k + cond (is_flip_of k line.act) 1 0) (act_done flips line.act s).after (act_counts line.act q s.shared.memory within) w in
       omega arith
 
   act_third : (act : Act) (script : List ScriptLine) (q : ℕ → ℕ) (s : MachineState B) → CountsWithin flips q s.shared.memory
@@ -58,19 +64,17 @@ module _ {B : Type 0} (bus : BusMeaning B) (flips : FlipMeaning B) (cells : Cell
   act_third (Flip u bit) script q s within few told =
       told_first script s.beyond (is_third (flips.cells.cell s.shared.memory u)) s.steps u told
       (λ third. let two = third_counts_two (flips.cells.cell s.shared.memory u) third in let most = within u in let all = few u in let here = one_flip u in omega arith)
-  act_third (Scrub u) script q s within few told = told_none s.beyond told
-    where
-      told_none : (beyond : Option (ℕ × ℕ)) → ThirdTold script beyond → ThirdTold script (or_else beyond None)
-      told_none (Some x) told = told
-      told_none None told = told
+  act_third (Scrub u) script q s within few told = told_none script s.beyond told
+  act_third (Inject bank rec class delay addr) script q s within few told = told_none script s.beyond told
+  act_third (Control bank rec value) script q s within few told = told_none script s.beyond told
 
   -- a third flip by the lines of a step is told truly
   pub lines_third : (lines script : List ScriptLine) (q : ℕ → ℕ) (s : MachineState B) → CountsWithin flips q s.shared.memory
       → ((w : ℕ) → q w + flips_of w lines ≤ flips_between script w 0 (s.steps + 1)) → ThirdTold script s.beyond
-      → ThirdTold script (lines_done flips lines s).beyond
+      → ThirdTold script (lines_acted flips lines s).after.beyond
   lines_third [] script q s within few told = told
   lines_third (line ∷ lines) script q s within few told =
-      lines_third lines script (λ k. q k + cond (is_flip_of k line.act) 1 0) (act_done flips line.act s) (act_counts line.act q s.shared.memory within)
+      lines_third lines script (λ k. q k + cond (is_flip_of k line.act) 1 0) (act_done flips line.act s).after (act_counts line.act q s.shared.memory within)
       (λ w. let most = few w in let cut = count-cons (λ line. is_flip_of w line.act) line lines in omega arith)
       (act_third line.act script q s within (λ w. let most = few w in let cut = count-cons (λ line. is_flip_of w line.act) line lines in omega arith) told)
 

@@ -10,7 +10,7 @@ use Rattle.fault_script.specs.Steps.{step_of_line, at_step}
 use Rattle.fault_script.proofs.StepLemmas.{at_step_from_first, at_step_over, is_first_line_of_step}
 use Rattle.ras_machine.specs.declared.state.MachineState.{MachineState}
 use Rattle.ras_machine.specs.FirstLine.{IsFirstLineOf}
-use Rattle.ras_machine.specs.Machine.{lines_done}
+use Rattle.ras_machine.specs.Actions.{lines_acted}
 
 -- a line that stands past the end of all lines
 abbrev pub no_line : ScriptLine
@@ -40,7 +40,7 @@ from_first_line lines n at d up it =
 module _ {B : Type 0} (flips : FlipMeaning B) where
   -- no act is left behind a line of a later step
   pub lines_over : (lines : List ScriptLine) (n k : ℕ) (d : ScriptLine) (first s : MachineState B) → IsNonDecreasingBy step_of_line lines → k < length lines → n < (get_or lines k d).step
-      → lines_done flips (at_step n lines) first ≡ lines_done flips (at_step n (drop k lines)) s
-      → s ≡ lines_done flips (at_step n lines) first
+      → (lines_acted flips (at_step n lines) first).after ≡ (lines_acted flips (at_step n (drop k lines)) s).after
+      → s ≡ (lines_acted flips (at_step n lines) first).after
   lines_over lines n k d first s up inside later left =
-      sym (left ∙ ap (λ lines. lines_done flips lines s) (at_step_over n lines k d up inside later))
+      sym (left ∙ ap (λ lines. (lines_acted flips lines s).after) (at_step_over n lines k d up inside later))

@@ -21,7 +21,7 @@ use Rattle.rv64_hart.specs.Harts.{HartsScene, HartsStepped, end_applied, harts_s
 use Rattle.rv64_hart.specs.Within.{StoresWithin, OutcomeWithin}
 use Rattle.rv64_hart.specs.declared.ends.TurnEnd.TheVariants as ends
 use Rattle.ras_machine.specs.declared.ending.Stop.TheVariants as stops
-use Rattle.ras_machine.specs.Flat.{FlatState, FlatMove, acting, flat_answered, ram_after, flat_outcome}
+use Rattle.ras_machine.specs.Flat.{FlatState, FlatMove, flat_answered, ram_after, flat_outcome}
 use Rattle.ras_machine.specs.Acted.{ending_at}
 use Rattle.ras_machine.specs.Ends.{guest_ends, turn_stop, turn_steps}
 use Rattle.ras_machine.specs.Since.{stores_of, stores_whole}
@@ -125,17 +125,17 @@ module _ {B L : Type 0} (bus : BusMeaning B) (flips : FlipMeaning B) (logged : L
   abbrev pub scene_of : FlatState → B → L → HartsScene B L
   scene_of s b log = harts_scene s.harts s.place s.console b log
 
-  finish_alike : KeepsWords bus → IsFaithful bus flips stands → (n : ℕ) (s : FlatState) (q : ℕ → ℕ) (m : Asking Outcome) (outcome : Outcome) (b b' : B) (log log' : L)
+  finish_alike : KeepsWords bus → IsFaithful bus flips stands → (i n : ℕ) (s : FlatState) (q : ℕ → ℕ) (m : Asking Outcome) (outcome : Outcome) (b b' : B) (log log' : L)
       → StandsFor bus stands s.ram q b' → StoresWithin (length s.ram) outcome.stores
-      → StepsAlike n s q m (stores_of s.console outcome) (harts_finished bus logged acting (scene_of s b log) (Ended outcome b' log')) (flat_outcome n s outcome)
+      → StepsAlike n s q m (stores_of s.console outcome) (harts_finished bus logged i (scene_of s b log) (Ended outcome b' log')) (flat_outcome i n s outcome)
   unfolding harts_finished flat_outcome
-  finish_alike keeps faithful n s q m o b b' log log' it within = by_room (has_room s.console o.bytes)
+  finish_alike keeps faithful i n s q m o b b' log log' it within = by_room (has_room s.console o.bytes)
     where
       by_room : (fits : Bool) → StepsAlike n s q m (if fits then o.stores else [])
-          (harts_finished_by fits bus logged acting (scene_of s b log) o b' log')
+          (harts_finished_by fits bus logged i (scene_of s b log) o b' log')
           (if fits
           then record {
-            after = record { harts = end_applied acting o s.harts; place = s.place + o.taken; ram = ram_after s.ram o.stores; console = s.console ++ o.bytes };
+            after = record { harts = end_applied i o s.harts; place = s.place + o.taken; ram = ram_after s.ram o.stores; console = s.console ++ o.bytes };
             ending = guest_ends o.ending n;
           }
           else record { after = s; ending = Some (record { stop = stops.ConsoleFull; steps = n }) })
@@ -143,17 +143,17 @@ module _ {B L : Type 0} (bus : BusMeaning B) (flips : FlipMeaning B) (logged : L
       by_room false = both_step (λ pc. refl) refl refl refl it
 
   -- a step over both
-  pub step_alike : KeepsWords bus → IsFaithful bus flips stands → (n : ℕ) (s : FlatState) (q : ℕ → ℕ) (h : ArchitecturalState) (m : Asking Outcome) (most : ℕ) (b : B) (log : L)
+  pub step_alike : KeepsWords bus → IsFaithful bus flips stands → (i n : ℕ) (s : FlatState) (q : ℕ → ℕ) (h : ArchitecturalState) (m : Asking Outcome) (most : ℕ) (b : B) (log : L)
       → StandsFor bus stands s.ram q b → AsksWithin (length s.ram) most (OutcomeWithin (length s.ram) h) m
-      → StepsAlike n s q m (stores_of s.console (flat_answered s.ram m)) (harts_step_of bus logged acting m (scene_of s b log)) (flat_outcome n s (flat_answered s.ram m))
+      → StepsAlike n s q m (stores_of s.console (flat_answered s.ram m)) (harts_step_of bus logged i m (scene_of s b log)) (flat_outcome i n s (flat_answered s.ram m))
   unfolding harts_finished
-  step_alike keeps faithful n s q h m most b log it within = from (play bus logged m b log) (turn_alike keeps faithful h m most s.ram q b log it within)
+  step_alike keeps faithful i n s q h m most b log it within = from (play bus logged m b log) (turn_alike keeps faithful h m most s.ram q b log it within)
     where
       from : (P : Played Outcome B L) → Alike s.ram q h m P
-          → StepsAlike n s q m (stores_of s.console (flat_answered s.ram m)) (harts_finished bus logged acting (scene_of s b log) P) (flat_outcome n s (flat_answered s.ram m))
+          → StepsAlike n s q m (stores_of s.console (flat_answered s.ram m)) (harts_finished bus logged i (scene_of s b log) P) (flat_outcome i n s (flat_answered s.ram m))
       from P (both b' log' p it' within') =
-          subst (λ P. StepsAlike n s q m (stores_of s.console (flat_answered s.ram m)) (harts_finished bus logged acting (scene_of s b log) P) (flat_outcome n s (flat_answered s.ram m))) (sym p)
-          (finish_alike keeps faithful n s q m (flat_answered s.ram m) b b' log log' it' within'.stores)
+          subst (λ P. StepsAlike n s q m (stores_of s.console (flat_answered s.ram m)) (harts_finished bus logged i (scene_of s b log) P) (flat_outcome i n s (flat_answered s.ram m))) (sym p)
+          (finish_alike keeps faithful i n s q m (flat_answered s.ram m) b b' log log' it' within'.stores)
       from P (consumed w use_kind b' log' p asks twice) =
-          subst (λ P. StepsAlike n s q m (stores_of s.console (flat_answered s.ram m)) (harts_finished bus logged acting (scene_of s b log) P) (flat_outcome n s (flat_answered s.ram m))) (sym p)
+          subst (λ P. StepsAlike n s q m (stores_of s.console (flat_answered s.ram m)) (harts_finished bus logged i (scene_of s b log) P) (flat_outcome i n s (flat_answered s.ram m))) (sym p)
           (consumes w use_kind refl refl refl refl asks twice)

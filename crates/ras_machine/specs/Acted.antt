@@ -1,24 +1,26 @@
 -- Actions of a step, one after the other, up to the one that stops the run.
-use Rattle.std.specs.Prelude.{ℕ, Option, Some, None}
+use Rattle.std.specs.Prelude.{ℕ, List, [], ◌++◌, Option, Some, None}
+use Rattle.ras_firmware.specs.Firmware.{FirmwareCall}
 use Rattle.ras_machine.specs.declared.ending.Stop.{Stop}
 use Rattle.ras_machine.specs.declared.ending.Ending.{Ending}
 
--- what an action leaves, and the stop of the run where it stops it
+-- what an action leaves, what it told the error side, in order, and the stop of the run where it stops it
 pub record Acted (S : Type 0) : Type 0 where
   pub after : S
+  pub calls : List FirmwareCall
   pub stop : Option Stop
 
--- an action after which the run goes on, and one that stops it
+-- an action that tells nothing and after which the run goes on, and one that stops it
 abbrev pub goes : {S : Type 0} → S → Acted S
-goes s = record { after = s; stop = None }
+goes s = record { after = s; calls = []; stop = None }
 
 abbrev pub stops_as : {S : Type 0} → Stop → S → Acted S
-stops_as stop s = record { after = s; stop = Some stop }
+stops_as stop s = record { after = s; calls = []; stop = Some stop }
 
--- where an action stopped the run, nothing follows it
+-- where an action stopped the run, nothing follows it; else the calls come one after the other
 abbrev pub unless_stopped : {S : Type 0} → Option Stop → Acted S → Acted S → Acted S
 unless_stopped (Some stop) a next = a
-unless_stopped None a next = next
+unless_stopped None a next = record next { calls = a.calls ++ next.calls }
 
 -- an action, and then the next one
 infixl 10 ◌>>=◌

@@ -40,3 +40,24 @@ abbrev pub turn_steps : TurnEnd → ℕ → ℕ
 turn_steps (ends.Went effect) n = n + 1
 turn_steps (ends.Stop stop) n = guest_steps stop n
 turn_steps (ends.Poisoned w use_kind) n = n
+
+-- a step met no poison
+abbrev pub IsUnpoisoned : TurnEnd → Type 0
+IsUnpoisoned (ends.Went effect) = Unit {0}
+IsUnpoisoned (ends.Stop stop) = Unit {0}
+IsUnpoisoned (ends.Poisoned w use_kind) = ⊥
+
+-- the ending that step n brings, where it met none
+abbrev pub ending_by : TurnEnd → ℕ → Option Ending
+ending_by (ends.Went effect) n = None
+ending_by (ends.Stop stop) n = Some (guest_ending stop n)
+ending_by (ends.Poisoned w use_kind) n = None
+
+-- the bank and the number of the record with the fatal error that a stop is for
+abbrev pub fatal_of : Stop → Option (ℕ × ℕ)
+fatal_of (stops.Shutdown reason) = None
+fatal_of (stops.Reboot kind) = None
+fatal_of stops.Budget = None
+fatal_of stops.ConsoleFull = None
+fatal_of (stops.Consumed w use_kind pc) = Some (2, 0)
+fatal_of (stops.Injected bank rec) = Some (bank, rec)

@@ -10,8 +10,9 @@ use Rattle.rv64_hart.specs.Outcome.{Outcome, Store, has_room}
 use Rattle.rv64_hart.specs.Turn.{turn}
 use Rattle.ras_machine.specs.declared.ending.Stop.TheVariants as stops
 use Rattle.ras_machine.specs.declared.ending.Ending.{Ending}
-use Rattle.ras_machine.specs.declared.flat.TheConstants.{ACTING}
+use Rattle.ras_machine.specs.declared.settings.Settings.{Settings}
 use Rattle.ras_machine.specs.Ends.{guest_ends}
+use Rattle.ras_machine.specs.Schedule.{Given, pick}
 use Rattle.ras_machine.specs.Runs.{Move, RunResult, ended_or, unless_ended}
 
 -- what the flat machine keeps between two steps: its harts, how many bytes of the input they took, its RAM and its console
@@ -21,17 +22,19 @@ pub record FlatState : Type 0 where
   pub ram : List ℕ
   pub console : List ℕ
 
--- the state that an image starts in: its one hart enters the image, nothing of the input is taken, the RAM has the image's words, and the console is empty
-abbrev pub flat_start : Program → FlatState
-flat_start image = record { harts = first_harts 1 image.entry; place = 0; ram = image.words; console = [] }
+-- The state that an image starts in: of so many harts hart 0 is started and enters the image, nothing of the input is taken, the
+-- RAM has the image's words, and the console is empty.
+abbrev pub flat_start : Program → ℕ → FlatState
+flat_start image harts = record { harts = first_harts harts image.entry; place = 0; ram = image.words; console = [] }
 
--- the number of the hart whose turn it is
-abbrev pub acting : ℕ
-acting = ACTING
+-- the number of the hart whose turn step n is
+abbrev pub acting : Given → ℕ → List ArchitecturalState → ℕ
+acting given n harts = pick given.schedule (length harts) n
 
 -- the turn of that hart in step n, in a RAM of so many words
-abbrev pub turn_of : List ℕ → ℕ → ℕ → List ArchitecturalState → ℕ → Asking Outcome
-turn_of input n words harts place = turn (around_at words (peers_of harts) n input place) (hart_at harts acting)
+abbrev pub turn_of : Given → ℕ → ℕ → List ArchitecturalState → ℕ → Asking Outcome
+turn_of given n words harts place =
+    turn (around_at words (peers_of harts) n given.input place) (hart_at harts (acting given n harts))
 
 -- what a computation answers where the RAM answers its asks
 abbrev pub flat_answered : {X : Type 0} → List ℕ → Asking X → X
@@ -47,40 +50,40 @@ ram_after ram (s ∷ stores) = ram_after (slice_set ram s.w (merged_value (slice
 abbrev pub FlatMove : Type 0
 FlatMove = Move FlatState
 
--- What step n makes of an outcome: where the console has no room it stops and changes nothing; else the stores, the bytes, the
+-- What step n makes of an outcome of hart i: where the console has no room it stops and changes nothing; else the stores, the bytes, the
 -- harts' new states and the place are applied.
-unfoldable pub flat_outcome : ℕ → FlatState → Outcome → FlatMove
-flat_outcome n s o =
+unfoldable pub flat_outcome : ℕ → ℕ → FlatState → Outcome → FlatMove
+flat_outcome i n s o =
     if has_room s.console o.bytes
     then record {
-      after = record { harts = end_applied acting o s.harts; place = s.place + o.taken; ram = ram_after s.ram o.stores; console = s.console ++ o.bytes };
+      after = record { harts = end_applied i o s.harts; place = s.place + o.taken; ram = ram_after s.ram o.stores; console = s.console ++ o.bytes };
       ending = guest_ends o.ending n;
     }
     else record { after = s; ending = Some (record { stop = stops.ConsoleFull; steps = n }) }
 
 -- the turn of step n with this input
-abbrev pub flat_turn : List ℕ → ℕ → FlatState → Asking Outcome
-flat_turn input n s = turn_of input n (length s.ram) s.harts s.place
+abbrev pub flat_turn : Given → ℕ → FlatState → Asking Outcome
+flat_turn given n s = turn_of given n (length s.ram) s.harts s.place
 
 -- step n with this input: the RAM answers each ask of the turn
-abbrev pub flat_step : List ℕ → ℕ → FlatState → FlatMove
-flat_step input n s = flat_outcome n s (flat_answered s.ram (flat_turn input n s))
+abbrev pub flat_step : Given → ℕ → FlatState → FlatMove
+flat_step given n s = flat_outcome (acting given n s.harts) n s (flat_answered s.ram (flat_turn given n s))
 
 -- what a run of the flat machine leaves
 abbrev pub FlatRun : Type 0
 FlatRun = RunResult FlatState
 
 -- The run from step n on, with so many steps left of the budget.
-unfoldable pub flat_run : List ℕ → ℕ → ℕ → FlatState → FlatRun
-flat_run input zero n s = record { after = s; ending = record { stop = stops.Budget; steps = n } }
-flat_run input (suc left) n s =
-    let move = flat_step input n s in
-    ended_or move.ending move.after (flat_run input left (n + 1) move.after)
+unfoldable pub flat_run : Given → ℕ → ℕ → FlatState → FlatRun
+flat_run given zero n s = record { after = s; ending = record { stop = stops.Budget; steps = n } }
+flat_run given (suc left) n s =
+    let move = flat_step given n s in
+    ended_or move.ending move.after (flat_run given left (n + 1) move.after)
 
 -- the state after n steps
-unfoldable pub flat_after : List ℕ → FlatState → ℕ → FlatState
-flat_after input start zero = start
-flat_after input start (suc n) = (flat_step input n (flat_after input start n)).after
+unfoldable pub flat_after : Given → FlatState → ℕ → FlatState
+flat_after given start zero = start
+flat_after given start (suc n) = (flat_step given n (flat_after given start n)).after
 
 -- a flat machine: its state, its budget, and its ending once it has one
 pub record FlatMachine : Type 0 where
@@ -89,17 +92,21 @@ pub record FlatMachine : Type 0 where
   pub ended : Option Ending
 
 -- the machine of an image that has not run
-abbrev pub flat_made : Program → ℕ → FlatMachine
-flat_made image budget = record { state = flat_start image; budget = budget; ended = None }
+abbrev pub flat_made : Program → ℕ → ℕ → FlatMachine
+flat_made image budget harts = record { state = flat_start image harts; budget = budget; ended = None }
+
+-- the machine of an image that has the budget and the harts of these settings
+abbrev pub flat_of : Program → Settings → FlatMachine
+flat_of image settings = flat_made image settings.budget settings.harts
 
 -- the whole run of a machine that has not run
-abbrev pub flat_whole : List ℕ → FlatMachine → FlatRun
-flat_whole input m = flat_run input m.budget 0 m.state
+abbrev pub flat_whole : Given → FlatMachine → FlatRun
+flat_whole given m = flat_run given m.budget 0 m.state
 
 -- a machine after its whole run
 abbrev pub after_run : FlatMachine → FlatRun → FlatMachine
 after_run m run = record m { state = run.after; ended = Some run.ending }
 
 -- what a run leaves; a machine that has ended stays as it is
-abbrev pub flat_ran : List ℕ → FlatMachine → FlatMachine
-flat_ran input m = unless_ended m.ended m (after_run m (flat_whole input m))
+abbrev pub flat_ran : Given → FlatMachine → FlatMachine
+flat_ran given m = unless_ended m.ended m (after_run m (flat_whole given m))

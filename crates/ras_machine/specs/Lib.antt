@@ -1,11 +1,16 @@
 pub mod Settings
+pub mod Schedule
 pub mod Ends
 pub mod Runs
 pub mod RunsLaws
 pub mod Acted
 pub mod Flat
 pub mod FirstLine
+pub mod Actions
 pub mod Machine
+pub mod Accounted
+pub mod Due
+pub mod Errors
 pub mod Since
 pub mod Ways
 pub mod TwoRuns

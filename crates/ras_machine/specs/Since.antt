@@ -2,28 +2,29 @@
 use Rattle.std.specs.Prelude.{◌≡◌, ℕ, zero, suc, ◌+◌, ◌≤◌, ◌==◌, ◌&&◌, Bool, false, nat_le, nat_lt, List, [], Option, Some, None, count_by, if◌then◌else◌}
 use Rattle.std.specs.List.{list_any}
 use Rattle.fault_script.specs.declared.lines.Act.{Act}
-use Rattle.fault_script.specs.declared.lines.Act.TheVariants.{Flip, Scrub}
+use Rattle.fault_script.specs.declared.lines.Act.TheVariants.{Flip, Scrub, Inject, Control}
 use Rattle.fault_script.specs.declared.lines.ScriptLine.{ScriptLine}
 use Rattle.rv64_hart.specs.Outcome.{Outcome, Store, has_room}
 use Rattle.ras_machine.specs.Flat.{FlatState, flat_answered, flat_turn, flat_after}
+use Rattle.ras_machine.specs.Schedule.{Given}
 
 -- the stores that a step of the flat machine makes: none where the console has no room
 abbrev pub stores_of : List ℕ → Outcome → List Store
 stores_of console o = if has_room console o.bytes then o.stores else []
 
 -- the stores of step n from this state of the flat machine
-abbrev pub stores_in : List ℕ → ℕ → FlatState → List Store
-stores_in input n s = stores_of s.console (flat_answered s.ram (flat_turn input n s))
+abbrev pub stores_in : Given → ℕ → FlatState → List Store
+stores_in given n s = stores_of s.console (flat_answered s.ram (flat_turn given n s))
 
 -- one of the stores is of all eight bytes of word w
 abbrev pub stores_whole : ℕ → List Store → Bool
 stores_whole w stores = list_any (λ store. (store.w == w) && (store.mask == 255)) stores
 
 -- the last step below n in which the flat machine stores word w whole
-unfoldable pub last_whole_store : List ℕ → FlatState → ℕ → ℕ → Option ℕ
-last_whole_store input start w zero = None
-last_whole_store input start w (suc n) =
-    if stores_whole w (stores_in input n (flat_after input start n)) then Some n else last_whole_store input start w n
+unfoldable pub last_whole_store : Given → FlatState → ℕ → ℕ → Option ℕ
+last_whole_store given start w zero = None
+last_whole_store given start w (suc n) =
+    if stores_whole w (stores_in given n (flat_after given start n)) then Some n else last_whole_store given start w n
 
 -- the first step whose flips are counted: the one after that, or step 0
 abbrev pub step_after : Option ℕ → ℕ
@@ -34,18 +35,20 @@ step_after (Some n) = n + 1
 abbrev pub is_flip_of : ℕ → Act → Bool
 is_flip_of w (Flip u bit) = u == w
 is_flip_of w (Scrub u) = false
+is_flip_of w (Inject bank rec class delay address) = false
+is_flip_of w (Control bank rec value) = false
 
 -- how many lines flip word w in a step from `from` on and below `to`
 abbrev pub flips_between : List ScriptLine → ℕ → ℕ → ℕ → ℕ
 flips_between lines w from to = count_by (λ line. is_flip_of w line.act && (nat_le from line.step && nat_lt line.step to)) lines
 
 -- the flips of word w since its last whole store, before those of step n
-abbrev pub since_before : List ℕ → FlatState → List ScriptLine → ℕ → ℕ → ℕ
-since_before input start lines n w = flips_between lines w (step_after (last_whole_store input start w n)) n
+abbrev pub since_before : Given → FlatState → List ScriptLine → ℕ → ℕ → ℕ
+since_before given start lines n w = flips_between lines w (step_after (last_whole_store given start w n)) n
 
 -- the flips of word w since its last whole store, those of step n included
-abbrev pub since : List ℕ → FlatState → List ScriptLine → ℕ → ℕ → ℕ
-since input start lines n w = flips_between lines w (step_after (last_whole_store input start w n)) (n + 1)
+abbrev pub since : Given → FlatState → List ScriptLine → ℕ → ℕ → ℕ
+since given start lines n w = flips_between lines w (step_after (last_whole_store given start w n)) (n + 1)
 
 -- at most so many lines flip the same word
 pub record FlipsAtMost (most : ℕ) (lines : List ScriptLine) : Type 0 where

@@ -1,9 +1,9 @@
 //! How a run ends.
 
 ghost use Rattle.std.specs.Prelude.{◌≡◌, ◌+◌, ◌<◌, ◌≤◌, ◌^◌};
-ghost use Rattle.ras_machine.specs.Ends.{guest_ending};
+ghost use Rattle.ras_machine.specs.Ends.{guest_ending, fatal_of};
 
-use poison_mem::UseKind;
+use poison_mem::{RecordId, UseKind};
 use sbi_calls::GuestStop;
 
 /// Why a run stops.
@@ -17,13 +17,17 @@ pub enum Stop {
     Budget,
     /// The next step would bring the console over 1,048,576 bytes.
     ConsoleFull,
-    /// The next step asked for word `w`, for this use, and the word is poison. The step began at this pc.
+    /// The next step asked for word `w`, for this use, and the word is poison. The step began at
+    /// this pc.
     Consumed { w: u32, use_kind: UseKind, pc: u64 },
+    /// Record `rec` of bank `bank` keeps a critical error. It is the first that does.
+    Injected { bank: u8, rec: u8 },
 }
 
 /// The end of a run: why it stopped, and how many steps it completed.
 ///
-/// A step that shuts the machine down or reboots it is completed. One that would overfill the console isn't.
+/// A step that shuts the machine down or reboots it is completed. One that would overfill the
+/// console isn't.
 #[derive(Clone, Copy, Debug, PartialEq, Eq)]
 pub struct Ending {
     pub stop: Stop,
@@ -49,5 +53,19 @@ pub(crate) fn stopped(stop: GuestStop, n: u64) -> Ending
             stop: Stop::ConsoleFull,
             steps: n,
         },
+    }
+}
+
+/// The bank and the number of the record with the fatal error that a stop is for.
+pub(crate) fn fatal_of(stop: Stop) -> Option<(u8, u8)>
+    ensures { result ≡ fatal_of stop }
+{
+    match stop {
+        Stop::Consumed { .. } => Some((RecordId::Hart.bank(), RecordId::Hart.record())),
+        Stop::Injected { bank, rec } => Some((bank, rec)),
+        Stop::Shutdown(_) => None,
+        Stop::Reboot(_) => None,
+        Stop::Budget => None,
+        Stop::ConsoleFull => None,
     }
 }

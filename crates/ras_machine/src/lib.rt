@@ -3,20 +3,23 @@
 //! Only `Machine::make` and `Flat::make` take memory.
 #![tactic(auto)]
 
+mod accounted;
 mod count_downs;
 mod ending;
-mod events;
 mod first_line;
 mod flat;
 mod laws;
 mod loading;
 mod machine;
+mod schedule;
 mod settings;
 mod state;
 
+pub use accounted::runs_emit_each_event_once;
 pub use count_downs::count_downs_are_calls;
 pub use ending::{Ending, Stop};
 pub use flat::Flat;
 pub use laws::runs_go_on;
 pub use machine::Machine;
-pub use settings::Settings;
+pub use schedule::pick;
+pub use settings::{MOST_HARTS, Settings};

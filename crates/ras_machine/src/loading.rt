@@ -10,7 +10,8 @@ use poison_mem::{FlatMem, FlipBus};
 use ras_bits::NoMemory;
 use std::alloc::Global;
 
-/// A plain memory of these words, which are zero before they are loaded. The one refusal is want of memory.
+/// A plain memory of these words, which are zero before they are loaded. The one refusal is want of
+/// memory.
 #[tactic(auto, using(crate::proofs::Filled::none_filled, crate::proofs::Filled::one_more_filled, crate::proofs::Filled::zero_filled, crate::proofs::Filled::all_filled))]
 pub(crate) fn memory_of(alloc: Global, words: &[u64]) -> Result<FlatMem, NoMemory>
     requires { length words.now < 2 ^ 32 }
@@ -25,8 +26,8 @@ pub(crate) fn memory_of(alloc: Global, words: &[u64]) -> Result<FlatMem, NoMemor
     Ok(memory)
 }
 
-/// A stack that holds no line, over codewords of these words, which are zero before they are loaded. The one refusal is
-/// want of memory.
+/// A stack that holds no line, over codewords of these words, which are zero before they are
+/// loaded. The one refusal is want of memory.
 #[tactic(auto, using(crate::proofs::Filled::none_filled, crate::proofs::Filled::one_more_filled, crate::proofs::Filled::zero_filled, crate::proofs::Filled::all_filled))]
 pub(crate) fn stack_of(alloc: Global, words: &[u64]) -> Result<Stack, NoMemory>
     requires lines { length words.now % 8 ≡ 0 }
@@ -35,7 +36,8 @@ pub(crate) fn stack_of(alloc: Global, words: &[u64]) -> Result<Stack, NoMemory>
     ensures loaded { IfOk result (λ stack. stack ≡ loaded_stack words.now) }
 
     // It stands for these words, whatever flips are told of them.
-    ensures stands { IfOk result (λ stack. (q : ℕ → ℕ) → StackStands stack (slice_index words.now) q) }
+    ensures stands { IfOk result (λ stack.
+        (q : ℕ → ℕ) → StackStands stack (slice_index words.now) q) }
 {
     let mut stack = Stack::make(alloc, words.len() as u32)?;
     for w in 0..words.len() {

@@ -1,1 +1,4 @@
 pub mod Records
+pub mod Stops
+pub mod Harts
+pub mod Reports

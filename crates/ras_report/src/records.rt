@@ -36,7 +36,8 @@ impl Model for FileBuf {
 }
 
 impl FileBuf {
-    /// Takes the room, 1,605,632 bytes. Nothing is written yet.
+    /// Takes the room, 1,605,632 bytes. Nothing is written yet. `NoMemory` comes for want of memory
+    /// alone.
     pub fn make(alloc: Global) -> Result<FileBuf, NoMemory>
         ensures { IfOk result (λ b. b ≡ []) }
     {
@@ -64,7 +65,8 @@ impl FileBuf {
     }
 }
 
-/// The records of the list one after the other, with the ids from 1 on, in place of what was in the buffer.
+/// The records of the list one after the other, with the ids from 1 on, in place of what was in the
+/// buffer.
 pub fn records_file<'a>(r: &Records, b: &'a mut FileBuf) -> &'a [u8]
     ensures { result.now ≡ file_bytes r.now.views }
 {

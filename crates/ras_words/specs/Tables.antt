@@ -2,7 +2,7 @@
 use Rattle.std.specs.Prelude.{List, [], ◌∷◌, codes}
 use Rattle.clap_words.specs.Reading.{WordText, Opt}
 use Rattle.clap_words.specs.declared.table.Kind.TheVariants.{Flag, Text, Number}
-use Rattle.ras_words.specs.declared.limits.TheConstants.{STEPS, RAM_SIZE}
+use Rattle.ras_words.specs.declared.limits.TheConstants.{STEPS, RAM_SIZE, DRAIN_STEPS, PATROL_STEPS, HART_COUNT}
 
 -- the image is raw bytes
 abbrev pub raw : Opt
@@ -24,13 +24,37 @@ budget = record { name = codes "budget"; kind = Number STEPS }
 abbrev pub ram_mib : Opt
 ram_mib = record { name = codes "ram-mib"; kind = Number RAM_SIZE }
 
+-- the steps from one drain of the error records to the next
+abbrev pub poll : Opt
+poll = record { name = codes "poll"; kind = Number DRAIN_STEPS }
+
+-- the steps from one patrol scrub to the next
+abbrev pub patrol : Opt
+patrol = record { name = codes "patrol"; kind = Number PATROL_STEPS }
+
+-- how many harts there are
+abbrev pub harts : Opt
+harts = record { name = codes "harts"; kind = Number HART_COUNT }
+
+-- the file of the schedule
+abbrev pub schedule : Opt
+schedule = record { name = codes "schedule"; kind = Text }
+
+-- the file that the error records are written to
+abbrev pub records : Opt
+records = record { name = codes "records"; kind = Text }
+
+-- the file that firmware's memory is written to
+abbrev pub tables : Opt
+tables = record { name = codes "tables"; kind = Text }
+
 -- the file of the image, a plain word
 abbrev pub image : WordText
 image = codes "image"
 
 -- the options of `run`
 abbrev pub run_options : List Opt
-run_options = raw ∷ script ∷ input ∷ budget ∷ ram_mib ∷ []
+run_options = raw ∷ script ∷ input ∷ budget ∷ ram_mib ∷ poll ∷ patrol ∷ harts ∷ schedule ∷ records ∷ tables ∷ []
 
 -- the plain words of `run`
 abbrev pub run_plain : List WordText

@@ -1,12 +1,15 @@
 //! The words of a command line, of which the first is the command.
 
-ghost use Rattle.std.specs.Prelude.{◌≡◌, IfOk, IfSome, None, Some, Err, option_map};
+ghost use Rattle.std.specs.Prelude.{◌≡◌, ◌≢◌, ◌≤◌, IfOk, IfSome, None, Some, Err, option_map};
 ghost use Rattle.clap_words.specs.Table.{texts_of};
-ghost use Rattle.ras_words.specs.Run.{run_given, run_after};
+ghost use Rattle.ras_bits.specs.declared.map.TheConstants.{LAST_STEP};
+ghost use Rattle.ras_words.specs.Run.{poll_in, machine_given, run_given, run_after};
 ghost use Rattle.ras_words.specs.Commands.{command_of};
-ghost use Rattle.ras_words.specs.Read.{command_in, run_in, AreInLimits, IsInLimits};
+ghost use Rattle.ras_words.specs.Read.{command_in, machine_in, run_in, AreInLimits, IsInLimits};
 
-use crate::tables::{BUDGET, IMAGE, INPUT, RAM_MIB, RAW, RUN, SCRIPT};
+use crate::tables::{
+    BUDGET, HARTS, IMAGE, INPUT, PATROL, POLL, RAM_MIB, RAW, RECORDS, RUN, SCHEDULE, SCRIPT, TABLES,
+};
 use clap_words::{Given, WordsError, read_given};
 use std::alloc::Global;
 
@@ -25,23 +28,55 @@ pub struct MachineWords<'a> {
     pub budget: u64,
     /// The size of RAM in units of 2^20 bytes, 1 to 64: `--ram-mib`, or 16.
     pub ram_mib: u64,
+    /// The steps from one drain of the error records to the next, 0 or 2 to 1,000,000,000: `--poll`, or 1,000.
+    pub poll: u64,
+    /// The steps from one patrol scrub to the next, at most 1,000,000,000: `--patrol`, or 64.
+    pub patrol: u64,
+    /// How many harts there are, 1 to 4: `--harts`, or 1.
+    pub harts: u64,
+    /// The name of the schedule's file: `--schedule`.
+    pub schedule: Option<&'a str>,
+}
+
+/// What `run` asks for.
+#[derive(Clone, Copy, Debug, PartialEq)]
+pub struct RunWords<'a> {
+    /// What is run.
+    pub machine: MachineWords<'a>,
+    /// The name of the file that the error records are written to: `--records`.
+    pub records: Option<&'a str>,
+    /// The name of the file that firmware's memory is written to: `--tables`.
+    pub tables: Option<&'a str>,
 }
 
 /// What a command line asks for.
 #[derive(Clone, Copy, Debug, PartialEq)]
 pub enum Command<'a> {
     /// `run`: a run of an image.
-    Run(MachineWords<'a>),
+    Run(RunWords<'a>),
 }
 
-// The run that was given, if each number is one within its limits.
-fn run_in<'a>(given: &Given<'a>) -> Option<MachineWords<'a>>
-    ensures run { option_map run_in result ≡ run_given given.now }
+// The steps from one drain to the next that were given.
+fn poll_in(given: &Given<'_>) -> Option<u64>
+    ensures poll { result ≡ poll_in given.now }
+    ensures most { IfSome result (λ poll. poll ≤ LAST_STEP) }
+    ensures other { IfSome result (λ poll. poll ≢ 1) }
+{
+    let poll = given.number(&POLL)?;
+    if poll == 1 { None } else { Some(poll) }
+}
+
+// The run of the machine that was given, if each number is one within its limits.
+fn machine_in<'a>(given: &Given<'a>) -> Option<MachineWords<'a>>
+    ensures machine { option_map machine_in result ≡ machine_given given.now }
     ensures limits { IfSome result IsInLimits }
 {
     let image = given.value_of(IMAGE)?;
     let budget = given.number(&BUDGET)?;
     let ram_mib = given.number(&RAM_MIB)?;
+    let poll = poll_in(given)?;
+    let patrol = given.number(&PATROL)?;
+    let harts = given.number(&HARTS)?;
     Some(MachineWords {
         image,
         raw: given.has(RAW.name),
@@ -49,13 +84,30 @@ fn run_in<'a>(given: &Given<'a>) -> Option<MachineWords<'a>>
         input: given.value_of(INPUT.name),
         budget,
         ram_mib,
+        poll,
+        patrol,
+        harts,
+        schedule: given.value_of(SCHEDULE.name),
+    })
+}
+
+// The run that was given.
+fn run_in<'a>(given: &Given<'a>) -> Option<RunWords<'a>>
+    ensures run { option_map run_in result ≡ run_given given.now }
+    ensures limits { IfSome result (λ run. IsInLimits run.machine) }
+{
+    let machine = machine_in(given)?;
+    Some(RunWords {
+        machine,
+        records: given.value_of(RECORDS.name),
+        tables: given.value_of(TABLES.name),
     })
 }
 
 // The run that the words after `run` ask for.
-fn read_run<'a>(alloc: Global, words: &'a [String]) -> Result<MachineWords<'a>, WordsError>
+fn read_run<'a>(alloc: Global, words: &'a [String]) -> Result<RunWords<'a>, WordsError>
     ensures taken { IfOk result (λ run. run_after (texts_of words.entry.now) ≡ Some (run_in run)) }
-    ensures limits { IfOk result IsInLimits }
+    ensures limits { IfOk result (λ run. IsInLimits run.machine) }
     ensures refused { result ≡ Err WordsError.Refused → run_after (texts_of words.entry.now) ≡ None }
 {
     match read_given(alloc, &RUN, words) {
@@ -68,7 +120,8 @@ fn read_run<'a>(alloc: Global, words: &'a [String]) -> Result<MachineWords<'a>, 
 /// which is `run`.
 ///
 /// A word that begins with `--` names an option by its whole name: `--raw`, `--script FILE`,
-/// `--input FILE`, `--budget N` or `--ram-mib N`. The value follows the first `=` in the word, or is the next word,
+/// `--input FILE`, `--budget N`, `--ram-mib N`, `--poll N`, `--patrol N`, `--harts N`,
+/// `--schedule FILE`, `--records FILE` or `--tables FILE`. The value follows the first `=` in the word, or is the next word,
 /// which must not begin with `-` unless it is `-` alone. After the word `--` each word is plain.
 /// Options and plain words come in any order. A number is decimal digits, or `0x` and hexadecimal
 /// digits, within the limits of its option.

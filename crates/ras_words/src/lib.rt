@@ -9,8 +9,8 @@ mod limits;
 mod tables;
 
 pub use clap_words::WordsError;
-pub use commands::{Command, MachineWords, read_words};
+pub use commands::{Command, MachineWords, RunWords, read_words};
 pub use limits::{
-    DEFAULT_BUDGET, DEFAULT_RAM_MIB, IMAGE_LIMIT, INPUT_LIMIT, LEAST_RAM_MIB, MOST_RAM_MIB,
-    SCRIPT_LIMIT,
+    DEFAULT_BUDGET, DEFAULT_HARTS, DEFAULT_PATROL, DEFAULT_POLL, DEFAULT_RAM_MIB, IMAGE_LIMIT,
+    INPUT_LIMIT, LEAST_RAM_MIB, MOST_HARTS, MOST_RAM_MIB, SCHEDULE_LIMIT, SCRIPT_LIMIT,
 };

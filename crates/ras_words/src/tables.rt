@@ -1,6 +1,6 @@
 //! The tables of the commands: their plain words and their options.
 
-use crate::limits::{RAM_SIZE, STEPS};
+use crate::limits::{DRAIN_STEPS, HART_COUNT, PATROL_STEPS, RAM_SIZE, STEPS};
 use clap_words::{Kind, OptionRow, Table};
 
 /// The image is raw bytes.
@@ -33,11 +33,49 @@ pub(crate) const RAM_MIB: OptionRow = OptionRow {
     kind: Kind::Number(RAM_SIZE),
 };
 
+/// The steps from one drain of the error records to the next.
+pub(crate) const POLL: OptionRow = OptionRow {
+    name: "poll",
+    kind: Kind::Number(DRAIN_STEPS),
+};
+
+/// The steps from one patrol scrub to the next.
+pub(crate) const PATROL: OptionRow = OptionRow {
+    name: "patrol",
+    kind: Kind::Number(PATROL_STEPS),
+};
+
+/// How many harts there are.
+pub(crate) const HARTS: OptionRow = OptionRow {
+    name: "harts",
+    kind: Kind::Number(HART_COUNT),
+};
+
+/// The file of the schedule.
+pub(crate) const SCHEDULE: OptionRow = OptionRow {
+    name: "schedule",
+    kind: Kind::Text,
+};
+
+/// The file that the error records are written to.
+pub(crate) const RECORDS: OptionRow = OptionRow {
+    name: "records",
+    kind: Kind::Text,
+};
+
+/// The file that firmware's memory is written to.
+pub(crate) const TABLES: OptionRow = OptionRow {
+    name: "tables",
+    kind: Kind::Text,
+};
+
 /// The file of the image, a plain word.
 pub(crate) const IMAGE: &str = "image";
 
 /// The command `run`.
 pub(crate) const RUN: Table = Table {
     plain: &[IMAGE],
-    options: &[RAW, SCRIPT, INPUT, BUDGET, RAM_MIB],
+    options: &[
+        RAW, SCRIPT, INPUT, BUDGET, RAM_MIB, POLL, PATROL, HARTS, SCHEDULE, RECORDS, TABLES,
+    ],
 };

@@ -3,6 +3,7 @@ use Rattle.ras_machine.specs.declared.settings.Settings.{Settings}
 use Rattle.ras_words.specs.Read.{run_in}
 use Rattle.ras_cli.specs.Follows.{Follows}
 use Rattle.ras_cli.specs.Plan.{inputs_plan, results_plan, results_of}
+use Rattle.ras_machine.specs.Schedule.{given_by}
 use Rattle.ras_machine.specs.Machine.{faulty_run}
 use Rattle.ras_cli.proofs.AcceptedLemmas.{are_read, refusal_low, refusal_high}
 use Rattle.ras_cli.proofs.FollowsLemmas.{if_some_all}
@@ -15,8 +16,8 @@ returns-in-Ok-clause-follows g c =
     let run = run_in c.args.run in
     let k = c.in-Ok.ensures.reached in
     let results = λ (s : Settings). Follows (g.H.Host.told c.read_inputs.new.host) (g.H.Host.told c.run_inputs.new.host)
-    (results_of (faulty_run c.in-Ok.inputs.image s c.in-Ok.inputs.input.items k.lines)) c.run_inputs.result.code in
-    follows_value (inputs_plan run) (results_plan run) _ _ _ _ _ k.reached
+    (results_of run (faulty_run c.in-Ok.inputs.image s (given_by c.in-Ok.inputs.input.items c.in-Ok.inputs.schedule.items) k.lines)) c.run_inputs.result.code in
+    follows_value (inputs_plan run.machine) (results_plan run) _ _ _ _ _ k.reached
     (if_some_all _ _ (λ files. subst results c.settings_of.ensures.settings (c.run_inputs.ensures.follows k.lines k.rising)))
 
 pub returns-in-Ok-clause-completes : goal.returns-in-Ok-clause-completes
@@ -25,7 +26,7 @@ returns-in-Ok-clause-completes g c = all_complete _ (run_in c.args.run) _ _ _ (r
 pub returns-in-Ok-clause-headline : goal.returns-in-Ok-clause-headline
 returns-in-Ok-clause-headline g c =
     let run = run_in c.args.run in
-    run_headline _ run c.settings_of.result _ _ _ _ _ _ c.settings_of.ensures.settings (are_read _ _ run _ _ _ c.in-Ok.ensures.reached) (returns-in-Ok-clause-follows g c) c.run_inputs.ensures.keeps
+    run_headline _ run c.settings_of.result _ _ _ _ _ _ c.settings_of.ensures.settings (are_read _ _ run.machine _ _ _ c.in-Ok.ensures.reached) (returns-in-Ok-clause-follows g c) c.run_inputs.ensures.keeps
 
 pub returns-in-Ok-clause-ends : goal.returns-in-Ok-clause-ends
 returns-in-Ok-clause-ends g c =
@@ -33,7 +34,9 @@ returns-in-Ok-clause-ends g c =
     made_ends _ _ _ r.reads _ _ _ _ r.all r.made c.read_inputs.ensures.later c.run_inputs.ensures.ends
 
 pub returns-in-Err-clause-follows : goal.returns-in-Err-clause-follows
-returns-in-Err-clause-follows g c = let run = run_in c.args.run in stops_follow (inputs_plan run) (results_plan run) _ _ _ _ _ c.in-Err.ensures.stopped
+returns-in-Err-clause-follows g c =
+    let run = run_in c.args.run in
+    stops_follow (inputs_plan run.machine) (results_plan run) _ _ _ _ _ c.in-Err.ensures.stopped
 
 pub returns-in-Err-clause-completes : goal.returns-in-Err-clause-completes
 returns-in-Err-clause-completes g c = all_complete _ (run_in c.args.run) _ _ _ (returns-in-Err-clause-follows g c)

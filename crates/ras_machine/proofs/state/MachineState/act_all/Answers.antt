@@ -1,12 +1,15 @@
 use Rattle.std.proofs.Common.{◌+◌, sym, ap, refl, arith}
-use Rattle.ras_machine.specs.Machine.{lines_done}
+use Rattle.ras_machine.specs.Actions.{lines_acted}
 use Rattle.ras_machine.proofs.FirstLines.{no_line, from_first_line, lines_over, later_too}
 use Rattle.ras_machine.proofs.state.MachineState.act_all.Goals as goal
 
 pub loop-next-init : goal.loop-next-init
 loop-next-init g c = record {
-  left = ap (λ lines. lines_done g.B.FlipBus.flips lines c.args.self.now) (sym (from_first_line c.args.lines.now c.args.self.now.steps c.args.at.now no_line c.requires.script.rising c.requires.first));
+  left = ap (λ lines. (lines_acted g.B.FlipBus.flips lines c.args.self.now).after) (sym (from_first_line c.args.lines.now c.args.self.now.steps c.args.at.now no_line c.requires.script.rising c.requires.first));
   words = refl;
+  harts = refl;
+  poll = refl;
+  patrol = refl;
   steps = refl;
   inside = c.requires.first.inside;
   before = λ i d below. let less = c.requires.first.before i d below in omega arith;

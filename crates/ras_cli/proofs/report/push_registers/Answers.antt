@@ -1,9 +1,0 @@
-use Rattle.std.proofs.Common.{arith}
-use Rattle.ras_cli.proofs.Registers.{registers_more}
-use Rattle.ras_cli.proofs.report.push_registers.Goals as goal
-
-pub loop-n-preserved : goal.loop-n-preserved
-loop-n-preserved c = record {
-  items = registers_more c.args.hart.now c.loop-n.n c.x.result _ _ _ c.push_register.ensures.items c.x.ensures.register c.loop-n.invariant.items;
-  len = omega arith;
-}
