@@ -1,0 +1,5 @@
+pub mod Values
+pub mod Sections
+pub mod Records
+pub mod Firmware
+pub mod Files
