@@ -7,22 +7,8 @@
 #[cfg(test)]
 mod demo;
 #[cfg(test)]
-mod error_formats;
-#[cfg(test)]
-mod errors;
-#[cfg(test)]
-mod firmware;
-#[cfg(test)]
-mod helpers;
-#[cfg(test)]
 mod hosts;
 #[cfg(test)]
 mod inputs;
-#[cfg(test)]
-mod machine;
-#[cfg(test)]
-mod memory;
-#[cfg(test)]
-mod reports;
 #[cfg(test)]
 mod words;

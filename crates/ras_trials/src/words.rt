@@ -2,8 +2,9 @@
 
 use ras_numbers::{address, hex_digits, number};
 use ras_words::{
-    Command, DEFAULT_BUDGET, DEFAULT_RAM_MIB, IMAGE_LIMIT, INPUT_LIMIT, LEAST_RAM_MIB,
-    MOST_RAM_MIB, MachineWords, SCRIPT_LIMIT, WordsError, read_words,
+    Command, DEFAULT_BUDGET, DEFAULT_HARTS, DEFAULT_PATROL, DEFAULT_POLL, DEFAULT_RAM_MIB,
+    IMAGE_LIMIT, INPUT_LIMIT, LEAST_RAM_MIB, MOST_HARTS, MOST_RAM_MIB, MachineWords, RunWords,
+    SCHEDULE_LIMIT, SCRIPT_LIMIT, WordsError, read_words,
 };
 use std::alloc::{AllocError, Global};
 
@@ -15,7 +16,20 @@ const BARE: MachineWords<'static> = MachineWords {
     input: None,
     budget: 10_000_000,
     ram_mib: 16,
+    poll: 1_000,
+    patrol: 64,
+    harts: 1,
+    schedule: None,
 };
+
+// A run that writes no file.
+fn plain(machine: MachineWords<'_>) -> RunWords<'_> {
+    RunWords {
+        machine,
+        records: None,
+        tables: None,
+    }
+}
 
 // The words of a line, separated by single spaces: two spaces have an empty word between them.
 fn words_of(alloc: Global, line: &str) -> Result<Vec<String>, AllocError> {
@@ -26,25 +40,33 @@ fn words_of(alloc: Global, line: &str) -> Result<Vec<String>, AllocError> {
     Ok(words)
 }
 
-fn image(name: &str) -> MachineWords<'_> {
-    MachineWords {
+fn image(name: &str) -> RunWords<'_> {
+    plain(MachineWords {
         image: name,
         ..BARE
-    }
+    })
 }
 
-fn script(name: &str) -> MachineWords<'_> {
-    MachineWords {
+fn script(name: &str) -> RunWords<'_> {
+    plain(MachineWords {
         script: Some(name),
         ..BARE
-    }
+    })
 }
 
-fn budget(steps: u64) -> MachineWords<'static> {
-    MachineWords {
+fn budget(steps: u64) -> RunWords<'static> {
+    plain(MachineWords {
         budget: steps,
         ..BARE
-    }
+    })
+}
+
+fn intervals(poll: u64, patrol: u64) -> RunWords<'static> {
+    plain(MachineWords {
+        poll,
+        patrol,
+        ..BARE
+    })
 }
 
 #[test]
@@ -57,6 +79,11 @@ fn the_limits(rt: HostRuntime) {
         (LEAST_RAM_MIB, 1),
         (MOST_RAM_MIB, 64),
         (DEFAULT_RAM_MIB, 16),
+        (SCHEDULE_LIMIT, 16_777_216),
+        (DEFAULT_HARTS, 1),
+        (MOST_HARTS, 4),
+        (DEFAULT_POLL, 1_000),
+        (DEFAULT_PATROL, 64),
     ] {
         assert_eq!(rt; limit, want);
     }
@@ -64,17 +91,25 @@ fn the_limits(rt: HostRuntime) {
 
 #[test]
 fn words_that_are_taken(rt: HostRuntime) -> Result<(), AllocError> {
-    let raw = MachineWords { raw: true, ..BARE };
-    let all = MachineWords {
-        raw: true,
-        script: Some("s"),
-        input: Some("i"),
-        budget: 7,
-        ram_mib: 64,
-        ..BARE
+    let raw = plain(MachineWords { raw: true, ..BARE });
+    let all = RunWords {
+        machine: MachineWords {
+            raw: true,
+            script: Some("s"),
+            input: Some("i"),
+            budget: 7,
+            ram_mib: 64,
+            poll: 2,
+            patrol: 1,
+            harts: 4,
+            schedule: Some("o"),
+            ..BARE
+        },
+        records: Some("r"),
+        tables: Some("t"),
     };
     for (line, wanted) in [
-        ("run a.elf", BARE),
+        ("run a.elf", plain(BARE)),
         ("run -", image("-")),
         ("run --raw a.elf", raw),
         ("run --script s a.elf", script("s")),
@@ -85,11 +120,16 @@ fn words_that_are_taken(rt: HostRuntime) -> Result<(), AllocError> {
         ("run a.elf --budget 0", budget(0)),
         ("run a.elf --budget=1000000000", budget(1_000_000_000)),
         ("run a.elf --budget 0x1F", budget(31)),
+        ("run a.elf --poll 0 --patrol 0", intervals(0, 0)),
         (
-            "run --input=i --ram-mib 64 --budget=7 --script s --raw -- a.elf",
+            "run a.elf --poll 1000000000 --patrol 1000000000",
+            intervals(1_000_000_000, 1_000_000_000),
+        ),
+        (
+            "run --harts=4 --schedule o --tables t --input=i --ram-mib 64 --poll 2 --budget=7 --script s --records=r --patrol=1 --raw -- a.elf",
             all,
         ),
-        ("run a.elf --", BARE),
+        ("run a.elf --", plain(BARE)),
         ("run -- --raw", image("--raw")),
         ("run -- --", image("--")),
         ("run run", image("run")),
@@ -134,6 +174,14 @@ fn words_that_are_refused(rt: HostRuntime) -> Result<(), AllocError> {
         "run a.elf --budget 18446744073709551616",
         "run a.elf --ram-mib 0",
         "run a.elf --ram-mib 65",
+        "run a.elf --poll 1",
+        "run a.elf --poll 1000000001",
+        "run a.elf --patrol 1000000001",
+        "run a.elf --records",
+        "run a.elf --tables=t --tables=t",
+        "run a.elf --harts 0",
+        "run a.elf --harts 5",
+        "run a.elf --schedule",
     ] {
         let words = words_of(rt.alloc(), line)?;
         assert!(rt;

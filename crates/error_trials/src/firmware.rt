@@ -1,7 +1,7 @@
-//! The error side of a machine: races with the drain by hand, more records than there is room for, and firmware's memory as an
-//! operating system reads it.
+//! The error side of a machine: races with the drain by hand, more records than there is room for, and firmware's memory as
+//! an operating system reads it.
 
-use poison_mem::{Class, Event, EventKind, EventLog, UseKind};
+use poison_mem::{Event, EventKind, EventLog, RecordId};
 use ras_firmware::Firmware;
 use std::test::Fail;
 
@@ -59,23 +59,42 @@ fn an_event_races_with_the_drain(rt: HostRuntime) -> Result<(), Fail> {
     Ok(())
 }
 
+// Logs an event to the first of these records, as many as are said, and lets the drain emit what they show.
+fn emit(firmware: &mut Firmware, step: u64, count: usize) {
+    firmware.begin_step(step);
+    for (k, id) in RecordId::ALL.iter().enumerate() {
+        if k < count {
+            firmware
+                .banks
+                .log(Event::new(EventKind::BadWord, id.bank(), id.record(), 0));
+        }
+    }
+    firmware.mark();
+    firmware.clear();
+}
+
+// 819 times five views, and then two more.
 #[test]
 fn the_view_past_the_room_is_dropped_and_shown(rt: HostRuntime) -> Result<(), Fail> {
     let mut firmware = Firmware::make(rt.alloc())?;
-    for step in 0..8194u64 {
-        firmware.begin_step(step);
-        if step % 2 == 0 {
-            firmware.banks.log(corrected());
-        }
-        firmware.drain(step, 2);
+    for step in 0..819u64 {
+        emit(&mut firmware, step, 5);
     }
+    assert_eq!(rt; firmware.records.dropped(), 0);
+    emit(&mut firmware, 819, 2);
     let records = firmware.records.list();
     assert_eq!(rt; records.len(), 4096);
-    assert_eq!(rt; records.last().map(|view| view.kept.at), Some(8190));
+    assert_eq!(rt;
+        records.last().map(|view| (view.kept.rec, view.kept.at)),
+        Some((0, 819))
+    );
     assert_eq!(rt; firmware.records.dropped(), 1);
     let polled = firmware.memory.polled();
-    assert_eq!(rt; polled.len(), 1);
-    assert_eq!(rt; polled.last().map(|view| view.kept.at), Some(8192));
+    assert_eq!(rt; polled.len(), 2);
+    assert_eq!(rt;
+        polled.last().map(|view| (view.kept.rec, view.kept.at)),
+        Some((1, 819))
+    );
     Ok(())
 }
 
@@ -96,54 +115,6 @@ fn the_tables_and_the_address_stand_in_their_places(rt: HostRuntime) -> Result<(
         (0x200, b"\0\x20\0\x40\0\0\0\0\0\0\0\0".as_slice()),
         (0x1000, [0; 512].as_slice()),
         (0x2000, [0; 512].as_slice()),
-    ] {
-        assert!(rt; stand_at(bytes, offset, want), "offset {offset}");
-    }
-    Ok(())
-}
-
-#[test]
-fn the_region_shows_a_consumption(rt: HostRuntime) -> Result<(), Fail> {
-    let mut firmware = Firmware::make(rt.alloc())?;
-    let consumption = Event::consumption(UseKind::Fetch, 0, 0x8000_0008, 0x8000_0008);
-    firmware.banks.log(consumption);
-    firmware.stop(Some((2, 0)));
-    let bytes = firmware.memory.bytes();
-    // The block begins at 0x1000, its section 92 bytes further on.
-    for (offset, want) in [
-        (
-            0x1000,
-            b"\x11\0\0\0\0\0\0\0\0\0\0\0\x08\x01\0\0\x01\0\0\0".as_slice(),
-        ),
-        (0x1040, b"b2r0 c00000 s001 m0\0".as_slice()),
-        (0x105C, b"\x0C\x13\0\0\0\0\0\0\0\0\x08\x03".as_slice()),
-        (0x10FC, b"\x08\0\0\x80\0\0\0\0".as_slice()),
-        (0x1114, b"\x08\0\0\x80\0\0\0\0".as_slice()),
-        (0x111C, [0; 512].as_slice()),
-        (0x2000, [0; 512].as_slice()),
-    ] {
-        assert!(rt; stand_at(bytes, offset, want), "offset {offset}");
-    }
-    Ok(())
-}
-
-#[test]
-fn the_region_shows_an_injected_fatal_error(rt: HostRuntime) -> Result<(), Fail> {
-    let mut firmware = Firmware::make(rt.alloc())?;
-    let kind = EventKind::Injected(Class::Critical);
-    firmware.banks.log(Event::new(kind, 0, 0, 0x8000_0100));
-    firmware.stop(Some((0, 0)));
-    let bytes = firmware.memory.bytes();
-    for (offset, want) in [
-        (
-            0x1000,
-            b"\x11\0\0\0\0\0\0\0\0\0\0\0\x98\0\0\0\x01\0\0\0".as_slice(),
-        ),
-        (0x1040, b"b0r0 c00000 s001 m0\0".as_slice()),
-        (0x105C, b"\x02\x40\0\0\0\0\0\0".as_slice()),
-        (0x106C, b"\0\x01\0\x80\0\0\0\0".as_slice()),
-        (0x10A4, b"\x03\0\0\0\0\0\0\0".as_slice()),
-        (0x10AC, [0; 512].as_slice()),
     ] {
         assert!(rt; stand_at(bytes, offset, want), "offset {offset}");
     }

@@ -1,6 +1,6 @@
-//! Error banks, injections and the drain: registers as the profile has them, and races by hand.
+//! Error banks and injections: registers as the profile has them.
 
-use poison_mem::{Class, Event, EventKind, EventLog};
+use poison_mem::{Class, Event, EventKind, EventLog, UseKind};
 use reri_bank::{ADDR, BANK_INFO, Banks, CONTROL, INFO, STATUS, STRIDE, TIMESTAMP, VALID_SUMMARY};
 use reri_inject::{count_down, stage};
 
@@ -86,6 +86,17 @@ fn the_worst_event_is_kept(rt: HostRuntime) {
         Some(0x0002_0000_0005_0407)
     );
     assert_eq!(rt; banks.bank(0).read_reg(CONTROL + ADDR), Some(0x8000_0108));
+}
+
+#[test]
+fn a_consumption_is_kept_with_its_use_and_pc(rt: HostRuntime) {
+    let mut banks = Banks::new();
+    banks.log(Event::consumption(UseKind::Fetch, 0, 0x8000_0008, 0x8000_0008));
+    let kept = banks.bank(2).kept(0);
+    assert_eq!(rt;
+        kept.map(|view| (view.kept.class, view.kept.info, view.kept.suppl)),
+        Some((Class::Critical, 0, 0x8000_0008))
+    );
 }
 
 #[test]
