@@ -1,5 +1,5 @@
 -- Facts on truth values, options and lists.
-use Rattle.std.proofs.Common.{min, ◌<◌, ◌+◌, List, ◌≡◌, ℕ, [], ◌∷◌, Option, Some, None, Bool, true, false, cond, refl, option_map, length, arith, nat_lt, nat_eq}
+use Rattle.std.proofs.Common.{min, ◌<◌, ◌+◌, List, ◌≡◌, ℕ, [], ◌∷◌, Option, Some, None, Bool, true, false, cond, refl, length, arith, nat_lt, nat_eq}
 use Rattle.std.proofs.lemmas.Bool.{lt-ltb}
 use Rattle.std.proofs.lemmas.Bool.Decides.{nat_tests}
 use Rattle.clap.specs.declared.error.kind.ErrorKind.{ErrorKind}
@@ -11,10 +11,6 @@ use Rattle.clap_words.specs.Reading.{WordText, is_empty}
 pub find_none : (b : Bool) → (b || false) ≡ b
 find_none true = refl
 find_none false = refl
-
-pub map_cond : {X Y : Type 0} (f : X → Y) (b : Bool) (x : X) (rest : Option X) → option_map f (cond b (Some x) rest) ≡ cond b (Some (f x)) (option_map f rest)
-map_cond f true x rest = refl
-map_cond f false x rest = refl
 
 pub or_false : (a b : Bool) → (a || b) ≡ false → (a ≡ false) × (b ≡ false)
 or_false true b h = cc

@@ -16,5 +16,7 @@ mod writing;
 
 pub use laws::written_reads_back;
 pub use lines::{Act, ScriptError, ScriptLine, Why};
+pub use reading::is_readable;
 pub use scripts::Script;
+pub use words::{count_words, cut_line, line_word, trim_return};
 pub use writing::line_text;

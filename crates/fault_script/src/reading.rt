@@ -101,7 +101,8 @@ fn acting_line(line: &[u8], acted: usize, ram_words: u32) -> Result<ScriptLine, 
     Ok(ScriptLine { step, act })
 }
 
-fn is_readable(line: &[u8]) -> bool
+/// Whether each byte of a line is printable ASCII, a space or a tab.
+pub fn is_readable(line: &[u8]) -> bool
     ensures { result ≡ list_all is_script_byte line.now }
 {
     line.iter()

@@ -37,7 +37,7 @@ fn cut(bytes: &[u8], len: usize) -> (&[u8], &[u8])
 
 /// The first line, and the text behind it.
 #[tactic(auto, using(crate::proofs::WordLemmas::parts_cut, crate::proofs::WordLemmas::within))]
-pub(crate) fn cut_line(text: &[u8]) -> (&[u8], &[u8])
+pub fn cut_line(text: &[u8]) -> (&[u8], &[u8])
     requires { 0 < length text.now }
     ensures lines { parts is_line_feed text.now ≡ result.0.now ∷ parts is_line_feed result.1.now }
     ensures shorter { length result.1.now < length text.now }
@@ -72,7 +72,7 @@ pub(crate) fn next_word(line: &[u8]) -> Option<(&[u8], &[u8])>
 }
 
 /// The word with this number, or nothing.
-pub(crate) fn line_word(line: &[u8], number: usize) -> &[u8]
+pub fn line_word(line: &[u8], number: usize) -> &[u8]
     ensures { result.now ≡ get_or (words_of line.now) number [] }
 {
     let mut rest = line;
@@ -89,7 +89,7 @@ pub(crate) fn line_word(line: &[u8], number: usize) -> &[u8]
 }
 
 /// How many words a line has.
-pub(crate) fn count_words(line: &[u8]) -> usize
+pub fn count_words(line: &[u8]) -> usize
     ensures { result ≡ length (words_of line.now) }
 {
     let mut count = 0usize;
@@ -102,7 +102,7 @@ pub(crate) fn count_words(line: &[u8]) -> usize
 }
 
 /// A line without a carriage return at its end.
-pub(crate) fn trim_return(line: &[u8]) -> &[u8]
+pub fn trim_return(line: &[u8]) -> &[u8]
     ensures { result.now ≡ without_return line.now }
 {
     match line {

@@ -1,5 +1,5 @@
 -- Two caches over a memory. It is a bus of words that take flips.
-use Rattle.std.specs.Prelude.{ℕ, ◌/◌, ◌%◌, List, [], map, replicate}
+use Rattle.std.specs.Prelude.{◌≡◌, ℕ, ◌/◌, ◌%◌, List, [], map, replicate}
 use Rattle.poison_mem.specs.declared.cell.CellState.{CellState}
 use Rattle.poison_mem.specs.Bus.{BusMeaning, Reading}
 use Rattle.poison_mem.specs.Flips.{FlipMeaning}
@@ -57,6 +57,10 @@ stack_flips = record {
 -- a log to a record
 abbrev pub log_of : RecordId → LogTo
 log_of id = record { bank = bank_number id; rec = record_number id }
+
+-- each cache logs to its own record
+abbrev pub LogsToOwnRecords : StackLines → Type 0
+LogsToOwnRecords s = (s.log_to ≡ log_of L1) × (s.below.log_to ≡ log_of L2)
 
 -- no line is held, and each cache logs to its own record
 abbrev pub fresh_stack : List CellState → StackLines

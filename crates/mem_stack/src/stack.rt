@@ -2,7 +2,7 @@
 
 ghost use Rattle.std.specs.Prelude.{◌≡◌, ◌<◌, ◌≤◌, ◌%◌, ℕ, replicate, slice_get, IfOk};
 ghost use Rattle.ras_bits.specs.declared.map.TheConstants.{MOST_WORDS};
-ghost use Rattle.mem_stack.specs.Stack.{loaded_stack, stack_meaning};
+ghost use Rattle.mem_stack.specs.Stack.{fresh_stack, loaded_stack, stack_meaning};
 ghost use Rattle.mem_stack.specs.StackEntries.{IsCacheLevel, sets_of, first_entries, second_entries, FirstHasRoomFor, SecondHasRoomFor, forgotten};
 ghost use Rattle.mem_stack.specs.StackStands.{StackStands};
 
@@ -45,13 +45,13 @@ pub struct Stack {
 
 impl Model for Stack {
     ghost use Rattle.std.specs.Prelude.{◌≡◌, ◌%◌};
-    ghost use Rattle.mem_stack.specs.Stack.{StackLines, stack_level};
+    ghost use Rattle.mem_stack.specs.Stack.{StackLines, stack_level, LogsToOwnRecords};
 
     ghost Value = { StackLines };
 
     ghost view = { λ s. s.l1 };
 
-    ghost invariant = { λ s. stack_level.words s.l1 % 8 ≡ 0 };
+    ghost invariant = { λ s. (stack_level.words s.l1 % 8 ≡ 0) × LogsToOwnRecords s.l1 };
 }
 
 impl Stack {
@@ -91,6 +91,9 @@ impl Stack {
     /// Empties all lists of both caches, and writes nothing back. What was stored and not yet written back is lost.
     pub fn forget_all(&mut self)
         ensures after { self.new ≡ forgotten self.old }
+
+        // Its memory is that of a stack that holds no line.
+        ensures fresh { self.new ≡ fresh_stack self.old.below.below }
         ensures words { stack_meaning.words self.new ≡ stack_meaning.words self.old }
     {
         self.l1.forget_all();

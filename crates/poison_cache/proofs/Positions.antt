@@ -19,10 +19,6 @@ module _ {X : Type 0} where
   before-head None xs = refl
   before-head (Some x) xs = refl
 
-  before-none : (o : Option X) (xs : List X) (k : ℕ) → o ≡ None → slice_get (before o xs) k ≡ None
-  before-none None xs k none = refl
-  before-none (Some x) xs k none = cc
-
   before-tail : (o : Option X) (xs : List X) (k : ℕ) → (o ≡ None → slice_get xs k ≡ None) → slice_get (before o xs) (suc k) ≡ slice_get xs k
   before-tail None xs k gone = sym (gone refl)
   before-tail (Some x) xs k gone = refl

@@ -15,7 +15,7 @@ use Rattle.poison_cache.specs.declared.sets.TheConstants.{MOST_HELD}
 use Rattle.poison_cache.specs.Recent.{entry_of, without, renewed_as, with_room, victim_of, dirty_one, dirty_victim_of}
 use Rattle.poison_cache.specs.Ranks.{way_of, renewed, AreRanks, AreNewRanks, IsPromoted}
 use Rattle.poison_cache.specs.Ways.{flag_of, line_as, ranks_from, IsWayOf, IsEmptyAt, IsFirstEmpty}
-use Rattle.poison_cache.specs.Sets.{Arrays, no_cells, held_as, entry_in, ranked_in, set_list, lists_of, IsOrderedSet, HaveAllWays, AreSets}
+use Rattle.poison_cache.specs.Sets.{Arrays, no_cells, held_as, entry_in, ranked_in, set_list, lists_of, HaveAllWays, AreSets}
 use Rattle.poison_cache.proofs.Positions.{up_from-past, up_from-length, up_from-none}
 use Rattle.poison_cache.proofs.Ranks.{own_ranks, ranks_same}
 use Rattle.poison_cache.proofs.OrderedSets.{at_rank, hit_found, miss_found, not_held, IsFronted, fronted_is, fronted_ordered, IsPlaced, placed_is, placed_ordered, StaysElsewhere, list_at, changed_sets, changed_lists}
@@ -34,9 +34,6 @@ line_held Dirty line cells h found = cc
 
 -- one set of the arrays
 module _ (sets ways : ℕ) (a : Arrays) (set : ℕ) (sound : AreSets sets ways a) (below : set < sets) where
-  ordered : IsOrderedSet a ways (set * ways)
-  ordered = sound.each set below
-
   -- the entry of a way that holds a line is the one of the line
   pub hit_at : (way l : ℕ) (h : Held) → set * ways ≤ way → way < set * ways + ways → entry_in a way ≡ Some h → h.line ≡ l
       → (entry_of l (set_list a ways set) ≡ Some h) × (without l (set_list a ways set) ≡ remove (set_list a ways set) (slice_index a.ranks way))

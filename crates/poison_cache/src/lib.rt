@@ -3,6 +3,7 @@
 
 mod cache;
 mod entries;
+mod eviction;
 mod sets;
 mod ways;
 

@@ -1,13 +1,12 @@
 -- Lists of harts by their numbers.
-use Rattle.std.proofs.Common.{◌≡◌, ℕ, zero, suc, ◌+◌, ◌-◌, ◌*◌, ◌/◌, ◌%◌, ◌^◌, ◌<◌, ◌≤◌, Bool, true, false, List, [], ◌∷◌, ◌++◌, map, length, drop, refl, sym, ap, ◌∙◌, subst, arith, add-one}
+use Rattle.std.proofs.Common.{◌≡◌, ◌≢◌, ℕ, zero, suc, ◌+◌, ◌-◌, ◌*◌, ◌/◌, ◌%◌, ◌^◌, ◌<◌, ◌≤◌, Bool, true, false, List, [], ◌∷◌, ◌++◌, map, length, drop, refl, sym, ap, ◌∙◌, subst, arith, add-one}
 use Rattle.std.specs.Prelude.{◌==◌, slice_set, slice_index_or, if◌then◌else◌}
 use Rattle.std.specs.Int.{from_bool}
 use Rattle.std.proofs.Math.Nat.{div-div-eq-div-mul, div-eq_of_lt}
-use Rattle.std.proofs.Math.Seq.{drop-cons}
 use Rattle.std.proofs.lemmas.Bool.Decides.{nat_tests}
 use Rattle.std.proofs.lemmas.Grind.{pow_more}
 use Rattle.std.proofs.Math.Pow.{pow_mono}
-use Rattle.std.proofs.lemmas.List.{length-set, set-set, set-get_or, get_or-set_same, length-map, length-drop, map-set, map-id}
+use Rattle.std.proofs.lemmas.List.{length-set, set-set, set_comm, set-get_or, get_or-set_same, length-map, length-drop, map-set, map-id}
 use Rattle.ras_bits.specs.Bits.{has_bit}
 use Rattle.poison_mem.specs.declared.event.Event.{Event}
 use Rattle.poison_mem.specs.Bus.{BusMeaning}
@@ -76,7 +75,7 @@ stopped_next id (suc n) entry =
 pub stopped_more : (n entry : ℕ) → stopped_from 0 (n + 1) entry ≡ stopped_from 0 n entry ++ reset n entry ∷ []
 stopped_more n entry = rw (add-one n) (stopped_next 0 n entry ∙ ap (λ id. stopped_from 0 n entry ++ reset id entry ∷ []) (omega arith))
 
-length_stopped : (id n entry : ℕ) → length (stopped_from id n entry) ≡ n
+pub length_stopped : (id n entry : ℕ) → length (stopped_from id n entry) ≡ n
 length_stopped id zero entry = refl
 length_stopped id (suc n) entry = ap suc (length_stopped (id + 1) n entry)
 
@@ -123,11 +122,6 @@ bits_below (h ∷ harts) =
     let more : 2 ^ (length harts + 1) ≡ 2 ^ length harts * 2 = pow_more 2 (length harts) in
     let next : 2 ^ suc (length harts) ≡ 2 ^ (length harts + 1) = ap (λ n. 2 ^ n) (sym (add-one (length harts))) in
     omega arith
-
--- one hart more before those whose bits are known
-pub bits_next : (harts : List ArchitecturalState) (i j : ℕ) (d : ArchitecturalState) → j ≡ i + 1 → i < length harts
-    → from_bool (slice_index_or harts i d).started + 2 * started_bits (drop j harts) ≡ started_bits (drop i harts)
-bits_next harts i j d is within = sym (rw (is, add-one i, drop-cons harts i d within) refl)
 
 -- few harts have few bits
 pub bits_few : (harts : List ArchitecturalState) (i : ℕ) → length harts ≤ 4 → started_bits (drop i harts) ≤ 15
@@ -308,6 +302,20 @@ told_peers harts i h peers are within is told =
       omega arith,
       rw (bits, number) (bits_at harts i (reset i 0) within ∙ ap (λ (h : ArchitecturalState). h.started) is),
     )
+
+-- a hart is set, be it the one that acts or one that waits
+pub set_acting : (waiting : List ArchitecturalState) (at i : ℕ) (acting h : ArchitecturalState) → i ≡ at
+    → slice_set waiting at h ≡ slice_set (slice_set waiting at acting) i h
+set_acting waiting at i acting h same = rw same (sym (set-set waiting at acting h))
+
+pub set_waiting : (waiting : List ArchitecturalState) (at i : ℕ) (acting h : ArchitecturalState) → i ≢ at
+    → slice_set (slice_set waiting i h) at acting ≡ slice_set (slice_set waiting at acting) i h
+set_waiting waiting at i acting h other = set_comm waiting i at h acting other
+
+-- the harts are still numbered where it has the number of its place
+pub set_stays : (harts : List ArchitecturalState) (i : ℕ) (h : ArchitecturalState) → AreHarts harts → h.number ≡ i → AreHarts (slice_set harts i h)
+set_stays harts i h are number =
+    (stay harts (slice_set harts i h) are (length-set harts i h) (numbered_set 0 harts i h are.numbered (number ∙ omega arith))).are
 
 -- the harts of a machine that starts
 pub first_are : (n entry : ℕ) (h : ArchitecturalState) (waiting : List ArchitecturalState) → 1 ≤ n → n ≤ 4 → waiting ≡ stopped_from 0 n entry → h.number ≡ 0

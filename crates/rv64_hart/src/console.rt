@@ -9,7 +9,7 @@ use std::alloc::Global;
 use std::marker::Model;
 
 /// How many bytes a console takes.
-pub(crate) const CONSOLE_ROOM: usize = 1_048_576;
+pub const CONSOLE_ROOM: usize = 1_048_576;
 
 /// The bytes that a program has written, in order, with room for 1,048,576 of them.
 #[derive(Drop)]

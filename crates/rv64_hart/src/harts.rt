@@ -159,6 +159,19 @@ impl<B> Harts<B> {
         }
     }
 
+    /// Puts a hart in the place of hart `i`, whose number it has. The others and the memory stay. No step does so.
+    pub fn set_hart(&mut self, i: u8, mut h: Hart)
+        requires there { i < length self.old.harts }
+        requires number { h.number ≡ i }
+        ensures { self.new ≡ record self.old { harts = slice_set self.old.harts i h } }
+    {
+        if i as usize == self.at {
+            self.acting = h;
+        } else {
+            self.shared.swap(i as usize, &mut h);
+        }
+    }
+
     /// The memory.
     pub fn memory(&self) -> &B
         ensures { result.now ≡ self.now.memory }

@@ -27,7 +27,7 @@ mod step;
 mod system;
 mod traps;
 
-pub use console::Console;
+pub use console::{CONSOLE_ROOM, Console};
 pub use ends::{Effect, TurnEnd};
 pub use hart::{Hart, HartState};
 pub use harts::Harts;

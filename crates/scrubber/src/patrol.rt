@@ -1,6 +1,7 @@
 //! The patrol: one word is scrubbed every so many steps, and the words come in turn.
 
 ghost use Rattle.std.specs.Prelude.{◌≡◌, ◌<◌, ◌/◌, ℕ};
+ghost use Rattle.scrubber.specs.Interval.{left_in};
 ghost use Rattle.scrubber.specs.PatrolState.{PatrolState};
 ghost use Rattle.scrubber.specs.Patrol.{new_patrol, due_at, moved_on, moved_to, next_after, after_steps};
 
@@ -53,12 +54,21 @@ impl Patrol {
         }
     }
 
+    /// How many steps are left up to that in which a word is due, step `n` and that one counted: 1 where one is due in step
+    /// `n`. 0 where none ever is.
+    pub fn left(&mut self, n: u64) -> u64
+        ensures left { result ≡ left_in self.old.every n }
+        ensures stays { self.new ≡ self.old }
+    {
+        self.every.left(n)
+    }
+
     /// As `due`, without a division where the step that was asked for last is the one before.
     pub fn due_in_turn(&mut self, n: u64) -> Option<u32>
         ensures due { result ≡ due_at self.old n }
         ensures stays { self.new ≡ self.old }
     {
-        if self.every.left(n) == 1 {
+        if self.left(n) == 1 {
             Some(self.next)
         } else {
             None

@@ -14,6 +14,6 @@ returns-clause-loaded c = λ words fresh.
 
 pub returns-clause-stands : goal.returns-clause-stands
 returns-clause-stands c = λ words q fresh small.
-    let whole : length words % 8 ≡ 0 = rw (c.self.view_is ∙ fresh, length-map words codeword_of) at c.self.invariant in
+    let whole : length words % 8 ≡ 0 = rw (c.self.view_is ∙ fresh, length-map words codeword_of) at c.self.invariant.0 in
     subst (λ s. StackStands s (slice_index (slice_set words c.args.w c.args.v)) q) (sym (returns-clause-loaded c words fresh))
     (loaded_stands (slice_set words c.args.w c.args.v) q (rw (length-set words c.args.w c.args.v) whole) (set_below words c.args.w c.args.v (2 ^ 64) (omega arith) small))

@@ -1,7 +1,7 @@
 use Rattle.std.proofs.Common.{◌%◌, ◌∙◌, [], sym, ap, slice_index_or}
 use Rattle.poison_mem.specs.Bus.{logged_all}
 use Rattle.poison_cache.proofs.Hits.{dirty_room, clean_room}
-use Rattle.poison_cache.proofs.cache.evict.Goals as goal
+use Rattle.poison_cache.proofs.eviction.evict.Goals as goal
 
 pub returns-in-Some-clause-below : goal.returns-in-Some-clause-below
 returns-in-Some-clause-below g c =

@@ -2,7 +2,7 @@ use Rattle.std.proofs.Common.{◌≡◌, ◌∙◌, None, sym, ap}
 use Rattle.poison_mem.specs.Bus.{logged_all}
 use Rattle.poison_cache.specs.Recent.{dirty_victim_of, line_list}
 use Rattle.poison_cache.proofs.Hits.{clean_room, none_held}
-use Rattle.poison_cache.proofs.cache.make_room.Goals as goal
+use Rattle.poison_cache.proofs.eviction.make_room.Goals as goal
 
 pub returns-else-has_dirty_victim-clause-below : goal.returns-else-has_dirty_victim-clause-below
 returns-else-has_dirty_victim-clause-below g c =

@@ -1,7 +1,7 @@
 use Rattle.std.proofs.Common.{◌≡◌}
 use Rattle.poison_mem.specs.Bus.{logged_all}
 use Rattle.poison_cache.specs.Cache.{poison_events}
-use Rattle.poison_cache.proofs.cache.log_poison.Given as goal
+use Rattle.poison_cache.proofs.eviction.log_poison.Given as goal
 
 -- the events of the words so far
 abbrev pub invariant-loop-i : goal.invariant-loop-i
