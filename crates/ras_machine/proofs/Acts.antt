@@ -25,26 +25,26 @@ second_none None false x h = refl
 second_none (Some y) b x h = cc
 
 module _ {B : Type 0} (bus : BusMeaning B) (flips : FlipMeaning B) (stands : B → (ℕ → ℕ) → (ℕ → ℕ) → Type 0) where
-  -- lines leave the harts, the place in the input, the console, the patrol and the number of steps
+  -- what each act leaves, lines leave: the harts, the place in the input, the console, the patrol and the number of steps
+  lines_keep : {X : Type 0} (part : MachineState B → X) → ((act : Act) (s : MachineState B) → part (act_done flips act s).after ≡ part s)
+      → (lines : List ScriptLine) (s : MachineState B) → part (lines_acted flips lines s).after ≡ part s
+  lines_keep part keeps [] s = refl
+  lines_keep part keeps (line ∷ lines) s = lines_keep part keeps lines (act_done flips line.act s).after ∙ keeps line.act s
+
   pub lines_harts : (lines : List ScriptLine) (s : MachineState B) → (lines_acted flips lines s).after.shared.harts ≡ s.shared.harts
-  lines_harts [] s = refl
-  lines_harts (line ∷ lines) s = lines_harts lines (act_done flips line.act s).after
+  lines_harts = lines_keep (λ s. s.shared.harts) (λ act s. refl)
 
   pub lines_place : (lines : List ScriptLine) (s : MachineState B) → (lines_acted flips lines s).after.place ≡ s.place
-  lines_place [] s = refl
-  lines_place (line ∷ lines) s = lines_place lines (act_done flips line.act s).after
+  lines_place = lines_keep (λ s. s.place) (λ act s. refl)
 
   pub lines_console : (lines : List ScriptLine) (s : MachineState B) → (lines_acted flips lines s).after.console ≡ s.console
-  lines_console [] s = refl
-  lines_console (line ∷ lines) s = lines_console lines (act_done flips line.act s).after
+  lines_console = lines_keep (λ s. s.console) (λ act s. refl)
 
   pub lines_patrol : (lines : List ScriptLine) (s : MachineState B) → (lines_acted flips lines s).after.patrol ≡ s.patrol
-  lines_patrol [] s = refl
-  lines_patrol (line ∷ lines) s = lines_patrol lines (act_done flips line.act s).after
+  lines_patrol = lines_keep (λ s. s.patrol) (λ act s. refl)
 
   pub lines_steps : (lines : List ScriptLine) (s : MachineState B) → (lines_acted flips lines s).after.steps ≡ s.steps
-  lines_steps [] s = refl
-  lines_steps (line ∷ lines) s = lines_steps lines (act_done flips line.act s).after
+  lines_steps = lines_keep (λ s. s.steps) (λ act s. refl)
 
   -- what was found stays found
   pub lines_none : (lines : List ScriptLine) (s : MachineState B) → (lines_acted flips lines s).after.beyond ≡ None → s.beyond ≡ None

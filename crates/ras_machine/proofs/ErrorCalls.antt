@@ -67,7 +67,7 @@ logged_control b e = each_logged (λ s t. t.control ≡ s.control) b e (record {
     by_logging true s e = refl
     by_logging false s e = refl
 
-mild_rank : (c : Class) → c ≢ Critical → (rank c == 2) ≡ false
+pub mild_rank : (c : Class) → c ≢ Critical → (rank c == 2) ≡ false
 mild_rank Corrected h = refl
 mild_rank Deferred h = refl
 mild_rank Critical h = absurd (h refl)

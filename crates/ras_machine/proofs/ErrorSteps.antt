@@ -14,6 +14,7 @@ use Rattle.poison_mem.specs.declared.record_id.RecordId.TheVariants as ids
 use Rattle.poison_mem.specs.Bus.{BusMeaning}
 use Rattle.poison_mem.specs.Event.{consumption_of}
 use Rattle.poison_mem.specs.Flips.{FlipMeaning}
+use Rattle.poison_mem.specs.RecordIdLaws.{named_by_own}
 use Rattle.poison_mem.specs.RecordId.{bank_number, record_number, record_id}
 use Rattle.reri_bank.specs.Banks.{first_critical, new_banks, stamped}
 use Rattle.reri_bank.specs.BanksState.{BanksState}
@@ -332,15 +333,8 @@ region_of : (f : Firmware) (bank rec : ℕ) (id : RecordId) → record_id bank r
     → (firmware_stopped (Some (bank, rec)) f).memory.region ≡ (state_at f.banks id).kept
 region_of f bank rec id named none = region_shown f.memory (fatal_view f.banks (Some (bank, rec))) none ∙ ap (kept_by f.banks) named
 
-id_named : (id : RecordId) → record_id (bank_number id) (record_number id) ≡ Some id
-id_named ids.Read = refl
-id_named ids.Scrub = refl
-id_named ids.L1 = refl
-id_named ids.L2 = refl
-id_named ids.Hart = refl
-
 numbers_name : (bank rec : ℕ) (id : RecordId) → bank ≡ bank_number id → rec ≡ record_number id → record_id bank rec ≡ Some id
-numbers_name bank rec id bank_is rec_is = rw (bank_is, rec_is) (id_named id)
+numbers_name bank rec id bank_is rec_is = rw (bank_is, rec_is) (named_by_own id)
 
 pub some_fatal : (lines : List ScriptLine) (W : RecordId → Option Staged) (n : ℕ) (f : Firmware) (bank rec : ℕ)
     → first_critical f.banks ≡ Some (bank, rec) → ErrorsAre (λ id. IsDueEvent (inject_lines lines id n) n id) W n f → IsFatal lines n f bank rec

@@ -1,5 +1,5 @@
 -- A step of a hart leaves as many harts.
-use Rattle.std.proofs.Common.{ℕ, zero, suc, ◌+◌, ◌-◌, ◌≤◌, ◌≡◌, ◌∙◌, arith, Bool, true, false, List, length, map, refl, ap}
+use Rattle.std.proofs.Common.{ℕ, ◌-◌, ◌≤◌, ◌≡◌, ◌∙◌, arith, Bool, true, false, List, length, map, refl}
 use Rattle.std.specs.Prelude.{slice_set}
 use Rattle.std.proofs.lemmas.List.{length-map, length-set}
 use Rattle.poison_mem.specs.declared.event.Event.{Event}
@@ -8,17 +8,14 @@ use Rattle.poison_mem.specs.Asking.{Asking, Played, Ended, Poisoned, play}
 use Rattle.rv64_hart.specs.State.{ArchitecturalState}
 use Rattle.rv64_hart.specs.Outcome.{Outcome, has_room}
 use Rattle.rv64_hart.specs.Step.{end_of}
-use Rattle.rv64_hart.specs.Harts.{stopped_from, first_harts, HartsScene, saw_stores, affected, effect_applied, end_applied, harts_finished_by, harts_finished, harts_step_of}
+use Rattle.rv64_hart.specs.Harts.{first_harts, HartsScene, saw_stores, affected, effect_applied, end_applied, harts_finished_by, harts_finished, harts_step_of}
+use Rattle.rv64_hart.proofs.HartsLemmas.{length_stopped}
 use Rattle.rv64_hart.specs.declared.ends.TurnEnd.{TurnEnd}
 use Rattle.rv64_hart.specs.declared.ends.TurnEnd.TheVariants as ends
 
-stopped_count : (id n entry : ℕ) → length (stopped_from id n entry) ≡ n
-stopped_count id zero entry = refl
-stopped_count id (suc n) entry = ap suc (stopped_count (id + 1) n entry)
-
 -- the first harts are as many as they are to be
 pub first_count : (n entry : ℕ) → 1 ≤ n → length (first_harts n entry) ≡ n
-first_count n entry some = let rest = stopped_count 1 (n - 1) entry in omega arith
+first_count n entry some = let rest = length_stopped 1 (n - 1) entry in omega arith
 
 effect_count : (i : ℕ) (answer : TurnEnd) (harts : List ArchitecturalState) → length (effect_applied i answer harts) ≡ length harts
 effect_count i (ends.Went effect) harts = length-map harts (affected i effect)

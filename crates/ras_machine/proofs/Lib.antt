@@ -21,3 +21,6 @@ pub mod Told
 pub mod Accounts
 pub mod Machines
 pub mod CountDownCalls
+pub mod SameHarts
+pub mod Resets
+pub mod Alone

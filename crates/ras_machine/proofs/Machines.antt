@@ -161,7 +161,7 @@ same_step_by given lines read h s true = refl
 same_step_by given lines read h s false = ap (λ now. injections_due s >>= (λ b. lines_acted stack_flips now b >>= after_lines stack_meaning stack_flips given)) (h s.steps)
 
 -- a step sees only the lines of its step
-same_step : (given : Given) (lines read : List ScriptLine) → ((step : ℕ) → at_step step lines ≡ at_step step read) → (settings : Settings) (s : StackState)
+pub same_step : (given : Given) (lines read : List ScriptLine) → ((step : ℕ) → at_step step lines ≡ at_step step read) → (settings : Settings) (s : StackState)
     → stack_step settings given lines s ≡ stack_step settings given read s
 unfolding machine_step
 same_step given lines read h settings s = same_step_by given lines read h s (s.steps == settings.budget)

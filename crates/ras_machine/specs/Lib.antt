@@ -6,8 +6,11 @@ pub mod RunsLaws
 pub mod Acted
 pub mod Flat
 pub mod FirstLine
+pub mod Undisturbed
 pub mod Actions
 pub mod Machine
+pub mod StateCalls
+pub mod Same
 pub mod Accounted
 pub mod Due
 pub mod Errors

@@ -31,7 +31,17 @@ pub record StackMachine : Type 0 where
 abbrev pub machine_made : Program → Settings → StackMachine
 machine_made image settings =
     record {
-      state = record { shared = record { harts = first_harts settings.harts image.entry; memory = loaded_stack image.words }; turns = record {}; place = 0; beyond = None; firmware = new_firmware; poll = settings.poll; patrol = new_patrol settings.patrol (ram_words settings); console = []; steps = 0 };
+      state = record {
+        shared = record { harts = first_harts settings.harts image.entry; memory = loaded_stack image.words };
+        turns = record {};
+        place = 0;
+        beyond = None;
+        firmware = new_firmware;
+        poll = settings.poll;
+        patrol = new_patrol settings.patrol (ram_words settings);
+        console = [];
+        steps = 0;
+      };
       settings = settings;
       ended = None;
     }

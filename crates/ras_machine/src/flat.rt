@@ -160,9 +160,11 @@ impl Flat {
         self.parts.console.bytes()
     }
 
-    /// How many harts there are.
+    /// How many harts there are, from 1 to [`MOST_HARTS`](crate::MOST_HARTS).
     pub fn harts(&self) -> u8
-        ensures { result ≡ length self.now.state.harts }
+        ensures count { result ≡ length self.now.state.harts }
+        ensures some { 1 ≤ result }
+        ensures few { result ≤ MOST_HARTS }
     {
         self.parts.harts.count()
     }
@@ -173,5 +175,12 @@ impl Flat {
         ensures { result.now ≡ hart_at self.now.state.harts i }
     {
         self.parts.harts.hart(i)
+    }
+
+    /// How many bytes of the input its harts took.
+    pub(crate) fn place(&self) -> u64
+        ensures { result ≡ self.now.state.place }
+    {
+        self.parts.place
     }
 }

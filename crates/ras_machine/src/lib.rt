@@ -11,9 +11,14 @@ mod flat;
 mod laws;
 mod loading;
 mod machine;
+mod readers;
+mod reset;
+mod same;
 mod schedule;
 mod settings;
 mod state;
+mod state_calls;
+mod undisturbed;
 
 pub use accounted::runs_emit_each_event_once;
 pub use count_downs::count_downs_are_calls;

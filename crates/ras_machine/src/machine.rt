@@ -5,7 +5,7 @@ ghost use Rattle.fault_script.specs.Fits.{IsScriptFor};
 ghost use Rattle.fault_script.specs.declared.lines.ScriptLine.{ScriptLine};
 ghost use Rattle.ras_machine.specs.Schedule.{Given, given_by};
 
-use crate::ending::{Ending, Stop};
+use crate::ending::Ending;
 use crate::first_line::first_line_of;
 use crate::loading::stack_of;
 use crate::schedule::Turns;
@@ -14,11 +14,9 @@ use crate::state::MachineState;
 use elf_load::Image;
 use fault_script::{Script, ScriptLine};
 use mem_stack::Stack;
-use poison_mem::{Cell, CellState, FlipBus};
 use ras_bits::NoMemory;
-use ras_firmware::{FirmMemory, Firmware, Records};
-use reri_bank::Banks;
-use rv64_hart::{Console, Hart, Harts};
+use ras_firmware::Firmware;
+use rv64_hart::{Console, Harts};
 use scrubber::{Interval, Patrol};
 use std::alloc::Global;
 use std::marker::Model;
@@ -33,9 +31,9 @@ use std::marker::Model;
 /// a poisoned word.
 #[derive(Drop)]
 pub struct Machine {
-    state: MachineState<Stack>,
-    settings: Settings,
-    ended: Option<Ending>,
+    pub(crate) state: MachineState<Stack>,
+    pub(crate) settings: Settings,
+    pub(crate) ended: Option<Ending>,
 }
 
 impl Model for Machine {
@@ -60,16 +58,15 @@ impl Model for Machine {
 
 impl Machine {
     ghost use Rattle.elf_load.specs.Program.{Program};
-    ghost use Rattle.mem_stack.specs.Stack.{stack_meaning, stack_flips};
     ghost use Rattle.ras_machine.specs.Accounted.{run_calls, IsOnRun, EmitsEachOnce};
     ghost use Rattle.ras_machine.specs.Ends.{fatal_of};
     ghost use Rattle.ras_machine.specs.Settings.{IsInRange, ram_words};
-    ghost use Rattle.rv64_hart.specs.Harts.{hart_at};
     ghost use Rattle.ras_machine.specs.FirstLine.{IsFirstLineOf};
     ghost use Rattle.ras_machine.specs.Flat.{flat_of};
     ghost use Rattle.ras_machine.specs.Machine.{machine_made, machine_stepped, machine_run};
     ghost use Rattle.ras_machine.specs.Ways.{EndsBy, KeepsToFlat};
     ghost use Rattle.ras_machine.specs.TwoRuns.{StaysInStep, KeepsInStep};
+    ghost use Rattle.ras_machine.specs.Undisturbed.{AreCalm, IsUndisturbed};
 
     /// A machine whose RAM has the words of an image, which hart 0 enters; the other harts are
     /// stopped. RAM, caches, console, records and firmware's memory are taken here.
@@ -103,14 +100,6 @@ impl Machine {
             settings: *s,
             ended: None,
         })
-    }
-
-    /// The settings that it was made with.
-    pub fn settings(&self) -> Settings
-        ensures settings { result ≡ self.now.settings }
-        ensures range { IsInRange result }
-    {
-        self.settings
     }
 
     /// Makes one step, and answers the ending that it brings: None exactly where the step was
@@ -204,77 +193,55 @@ impl Machine {
         loop {
             match self.ended {
                 Some(ending) => return ending,
-                None => self.go_on(input, schedule, lines, &mut at),
+                None => {
+                    self.go_on(input, schedule, lines, &mut at);
+                    self.go_on_undisturbed(input, schedule, lines, at);
+                }
             }
         }
     }
 
-    /// How many steps are completed.
-    pub fn steps(&self) -> u64
-        ensures { result ≡ self.now.state.steps }
+    // Makes the steps in which nothing but a hart acts, up to the first in which something else may.
+    // `at` is the number of the first line of this step or a later one, and stays so.
+    fn go_on_undisturbed(&mut self, input: &[u8], schedule: &[u8], lines: &[ScriptLine], at: usize)
+        requires script { IsScriptFor (ram_words self.old.settings) lines.now }
+        requires first { self.old.ended ≡ None → IsFirstLineOf self.old.state.steps lines.now at }
+        ensures left { let given = given_by input.now schedule.now in
+            machine_run given lines.now self.old ≡ machine_run given lines.now self.new }
+        ensures settings { self.new.settings ≡ self.old.settings }
+        ensures first { self.new.ended ≡ None → IsFirstLineOf self.new.state.steps lines.now at }
+        ensures on { self.new.ended ≡ None → self.old.ended ≡ None }
+        ensures low { self.new.ended ≡ None → self.old.state.steps ≤ self.new.state.steps }
     {
-        self.state.steps
+        if self.ended.is_some() {
+            return;
+        }
+        let until = self
+            .state
+            .undisturbed_until(self.settings.budget, lines, at);
+        while self.ended.is_none() && self.state.steps < until {
+            self.step_undisturbed(input, schedule);
+        }
     }
 
-    /// The bytes that the program has written.
-    pub fn console(&self) -> &[u8]
-        ensures { result.now ≡ self.now.state.console }
+    // Makes a step in which nothing but a hart acts.
+    fn step_undisturbed(&mut self, input: &[u8], schedule: &[u8])
+        requires going { self.old.ended ≡ None }
+        requires low { self.old.state.steps < self.old.settings.budget }
+        ensures after { let given = given_by input.now schedule.now in (lines : List ScriptLine)
+            → IsUndisturbed self.old.settings.budget lines self.old.state.poll
+            self.old.state.patrol self.old.state.steps
+            → AreCalm self.old.state.firmware.banks
+            → self.new ≡ machine_stepped given lines self.old }
+        ensures calm { AreCalm self.old.state.firmware.banks → self.new.ended ≡ None
+            → AreCalm self.new.state.firmware.banks }
+        ensures completed { self.new.ended ≡ None
+            → self.new.state.steps ≡ self.old.state.steps + 1 }
+        ensures poll { self.new.state.poll ≡ self.old.state.poll }
+        ensures patrol { self.new.state.patrol ≡ self.old.state.patrol }
+        ensures settings { self.new.settings ≡ self.old.settings }
     {
-        self.state.console.bytes()
-    }
-
-    /// Hart `i`.
-    pub fn hart(&self, i: u8) -> &Hart
-        requires { i < self.now.settings.harts }
-        ensures { result.now ≡ hart_at self.now.state.shared.harts i }
-    {
-        self.state.shared.hart(i)
-    }
-
-    /// The cell that a read of word `w` of RAM would give, without effect.
-    pub fn view(&self, w: u32) -> Cell
-        requires { w < ram_words self.now.settings }
-        ensures { result ≡ stack_flips.view self.now.state.shared.memory w }
-    {
-        self.state.shared.memory().view(w)
-    }
-
-    /// Word `w` of RAM as the memory keeps it.
-    pub fn cell_state(&self, w: u32) -> CellState
-        requires { w < ram_words self.now.settings }
-        ensures { result ≡ stack_flips.cells.cell self.now.state.shared.memory w }
-    {
-        self.state.shared.memory().cell_state(w)
-    }
-
-    /// The step and word of the first third flip: the first flip of an unmarked word that had taken
-    /// two since it was written.
-    pub fn beyond(&self) -> Option<(u64, u32)>
-        ensures { result ≡ self.now.state.beyond }
-    {
-        self.state.beyond
-    }
-
-    /// The records that firmware has emitted, the first 4,096 of them, and the number of the
-    /// others.
-    pub fn records(&self) -> &Records
-        ensures { result.now ≡ self.now.state.firmware.records }
-    {
-        &self.state.firmware.records
-    }
-
-    /// The memory that firmware writes for an operating system: tables, polled block and boot error
-    /// region.
-    pub fn firm(&self) -> &FirmMemory
-        ensures { result.now ≡ self.now.state.firmware.memory }
-    {
-        &self.state.firmware.memory
-    }
-
-    /// The error banks.
-    pub fn banks(&self) -> &Banks
-        ensures { result.now ≡ self.now.state.firmware.banks }
-    {
-        &self.state.firmware.banks
+        self.state
+            .step_undisturbed(input, schedule, &mut self.ended);
     }
 }

@@ -61,7 +61,9 @@ impl Turns {
         ensures pick { result ≡ pick schedule.now harts n }
         ensures below { result < harts }
     {
-        if schedule.is_empty() {
+        if harts == 1 {
+            0
+        } else if schedule.is_empty() {
             self.place(u64::from(harts), n) as u8
         } else {
             schedule[self.place(schedule.len() as u64, n) as usize] % harts

@@ -153,7 +153,7 @@ impl<B: FlipBus> MachineState<B> {
     /// Makes the step of the hart whose turn it is. The ending that it brings, where it brings one,
     /// is then in `ending`. Nothing is written there in a step that goes on, since an ending that
     /// isn't there would be copied in each step.
-    fn step_hart(&mut self, input: &[u8], schedule: &[u8], ending: &mut Option<Ending>)
+    pub(crate) fn step_hart(&mut self, input: &[u8], schedule: &[u8], ending: &mut Option<Ending>)
         requires fits { self.old.steps + 1 < 2 ^ 64 }
         requires none { ending.old ≡ None }
         ensures after { let given = given_by input.now schedule.now in

@@ -14,7 +14,9 @@ loop-self-preserved c =
     let low : c.loop-self.self.state.steps ≤ c.loop-self.self.settings.budget =
     subst (λ (m : StackMachine). m.state.steps ≤ m.settings.budget) c.self-in-loop-self.view_is c.self-in-loop-self.invariant.1 in
     record {
-      left = c.loop-self.invariant.left ∙ run_next (given_by c.args.input.now c.args.schedule.now) c.args.lines.now c.loop-self.self c.go_on.new.self c.go_on.ensures.after low c.go_on.ensures.completed;
-      settings = c.go_on.ensures.settings ∙ c.loop-self.invariant.settings;
-      first = c.go_on.ensures.first;
+      left = c.loop-self.invariant.left
+          ∙ run_next (given_by c.args.input.now c.args.schedule.now) c.args.lines.now c.loop-self.self c.go_on.new.self c.go_on.ensures.after low c.go_on.ensures.completed
+          ∙ c.go_on_undisturbed.ensures.left;
+      settings = c.go_on_undisturbed.ensures.settings ∙ c.go_on.ensures.settings ∙ c.loop-self.invariant.settings;
+      first = c.go_on_undisturbed.ensures.first;
     }
