@@ -23,3 +23,11 @@ ending_line ending records beyond =
 -- the report of a run: the line of its ending, and a line for each of its harts, of which there are so many
 abbrev pub report_of : Ending → KeptState → Option (ℕ × ℕ) → List ArchitecturalState → ℕ → List ℕ
 report_of ending records beyond harts count = ending_line ending records beyond ++ hart_lines [] harts count
+
+-- the line of an ending of the flat machine
+abbrev pub flat_ending_line : Ending → List ℕ
+flat_ending_line ending = codes "flat stop=" ++ stop_text ending.stop ++ codes " steps=" ++ decimal ending.steps ++ codes "\n"
+
+-- the report of a run of the flat machine: the line of its ending, and a line for each of its harts, all behind its name
+abbrev pub flat_report_of : Ending → List ArchitecturalState → List ℕ
+flat_report_of ending harts = flat_ending_line ending ++ hart_lines (codes "flat ") harts (length harts)

@@ -4,11 +4,15 @@
 #![tactic(auto)]
 
 mod harts;
+mod judging;
 mod records;
 mod reports;
 mod stops;
 mod text;
+mod verdicts;
 
+pub use judging::verdict;
 pub use records::{FileBuf, records_file};
-pub use reports::report;
+pub use reports::{flat_report, registers, report};
 pub use stops::stop_text;
+pub use verdicts::{Verdict, verdict_line};
