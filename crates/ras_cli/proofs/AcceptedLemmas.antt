@@ -13,34 +13,21 @@ use Rattle.ras_cli.specs.Files.{limit_of}
 use Rattle.ras_cli.specs.Status.{IsRefusal}
 use Rattle.ras_machine.specs.Machine.{faulty_run}
 use Rattle.ras_machine.specs.Schedule.{Given, given_by}
-use Rattle.ras_cli.specs.Plan.{Plan, Done, Refuse, Reading, RunInputs, calls_then, carried_out, is_longer, ◌>>=◌, file_plan, named_plan, accepted_image, image_in, image_plan, accepted_lines, lines_of, script_plan, input_plan, schedule_plan, inputs_plan, results_plan, plan_of, settings_of, results_of}
+use Rattle.ras_cli.specs.Plan.{Plan, Done, Refuse, Reading, RunInputs, calls_then, carried_out, is_longer, ◌>>=◌, file_plan, named_plan, accepted_image, image_in, image_plan, accepted_lines, lines_of, script_plan, input_plan, schedule_plan, inputs_plan, results_plan, run_plan, settings_of, results_of}
 use Rattle.ras_cli.specs.Reaches.{value_in, reads_in, ComesTo, ReachesInputs}
 use Rattle.ras_cli.specs.Accepted.{named_read, reads_of, IsAccepted, AreReadInputs}
-use Rattle.ras_cli.specs.Follows.{AreReads}
 use Rattle.ras_cli.proofs.Small.{same_cond}
-use Rattle.ras_cli.proofs.FollowsLemmas.{reads_append}
 use Rattle.ras_cli.proofs.PlanLemmas.{bind_reads, bind_carried}
 
--- ---- the reads of a run
-
-named_is_read : (file : FileKind) (name : Option Bytes) → AreReads (named_read file name)
-named_is_read file None = tt
-named_is_read file (Some name) = (tt, tt)
-
-pub all_are_reads : (run : MachineRequest) → AreReads (reads_of run)
-all_are_reads run = (
-  tt,
-  reads_append (named_read Script run.script) (named_read Input run.input ++ named_read Schedule run.schedule) (named_is_read Script run.script)
-      (reads_append (named_read Input run.input) (named_read Schedule run.schedule) (named_is_read Input run.input) (named_is_read Schedule run.schedule)),
-)
+-- ---- plans that come to a value
 
 -- a plan that comes to a value, and then another
-record Bound {X Y : Type 0} (p : Plan X) (f : X → Plan Y) (files : List File) (y : Y) : Type 0 where
-  x : X
-  first : value_in p files ≡ Some x
-  then : value_in (f x) files ≡ Some y
+pub record Bound {X Y : Type 0} (p : Plan X) (f : X → Plan Y) (files : List File) (y : Y) : Type 0 where
+  pub x : X
+  pub first : value_in p files ≡ Some x
+  pub then : value_in (f x) files ≡ Some y
 
-bound : {X Y : Type 0} (p : Plan X) (f : X → Plan Y) (files : List File) (y : Y) → value_in (p >>= f) files ≡ Some y → Bound p f files y
+pub bound : {X Y : Type 0} (p : Plan X) (f : X → Plan Y) (files : List File) (y : Y) → value_in (p >>= f) files ≡ Some y → Bound p f files y
 bound (Done x) f files y e = record { x = x; first = refl; then = e }
 bound (Refuse line) f files y e = cc
 bound {X} {Y} (Reading file name whole) f files y e = go (is_longer files file name) refl e (bound (whole (bytes_of files name)) f files y)
@@ -49,6 +36,8 @@ bound {X} {Y} (Reading file name whole) f files y e = go (is_longer files file n
         → (value_in (whole (bytes_of files name) >>= f) files ≡ Some y → Bound (whole (bytes_of files name)) f files y) → Bound (Reading file name whole) f files y
     go true is h onward = cc
     go false is h onward = let k = onward h in record { x = k.x; first = rw is k.first; then = k.then }
+
+-- ---- the reads of a run
 
 file_reads : (file : FileKind) (name : Bytes) (files : List File) → reads_in (file_plan file name) files ≡ Read name (limit_of file) ∷ []
 file_reads file name files = ap (λ (l : List HostAction). Read name (limit_of file) ∷ l) (same_cond (is_longer files file name) [])
@@ -117,7 +106,7 @@ accepted_reads files run inputs e =
 -- ---- the plan of a run whose files are accepted
 
 pub planned_accepted : (files : List File) (run : RunRequest) (image : Program) (lines : List ScriptLine) (given : Given) → IsAccepted files run.machine image lines given
-    → calls_then (reads_of run.machine) (results_of run (faulty_run image (settings_of run.machine) given lines)) ≡ carried_out (plan_of (Some run)) files
+    → calls_then (reads_of run.machine) (results_of run (faulty_run image (settings_of run.machine) given lines)) ≡ carried_out (run_plan run) files
 planned_accepted files run image lines given k =
     let inputs : RunInputs = record { image = image; lines = lines; given = given } in
     ap (λ (l : List HostAction). calls_then l (results_of run (faulty_run image (settings_of run.machine) given lines))) (sym (accepted_reads files run.machine inputs k))

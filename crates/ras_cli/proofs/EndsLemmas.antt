@@ -5,6 +5,7 @@ use Rattle.ras_host.specs.Causes.{Rose}
 use Rattle.ras_host.specs.Told.{Bytes, Outside, HostAction, Read, Err, Performs}
 use Rattle.ras_host.specs.ToldLaws.{performs_append}
 use Rattle.ras_cli.specs.declared.status.Exit.TheVariants as exits
+use Rattle.ras_cli.specs.Status.{IsDone}
 use Rattle.ras_cli.specs.Plan.{line_written}
 use Rattle.ras_cli.specs.Follows.{AreReads, Follows, OnlyReads, WritesLine, RunEnds}
 use Rattle.ras_cli.proofs.FollowsLemmas.{not_four, reads_append}
@@ -38,7 +39,7 @@ line_ends a b line faults now code f either later cause = record {
   cause = cause;
 }
   where
-    by_range : (code ≡ 2) ⊎ (code ≡ 3) → code ≤ 5
+    by_range : (code ≡ 2) ⊎ (code ≡ 3) → code ≤ 6
     by_range (inl e) = omega arith
     by_range (inr e) = omega arith
 
@@ -46,10 +47,10 @@ line_ends a b line faults now code f either later cause = record {
     by_words (inl e) one = omega (arith, e, one)
     by_words (inr e) one = omega (arith, e, one)
 
--- the results were written, or the host failed at them
-pub results_end : (a b : Outside) (faults now wanted code : ℕ) → (code ≡ wanted) ⊎ (code ≡ 3) → (wanted ≡ 0) ⊎ (wanted ≡ 5) → faults ≤ now → (code ≡ 3 → Rose faults now) → RunEnds a b faults now code
-results_end a b faults now wanted code either last later cause =
-    let p = by_last last either in
+-- outputs were written, or the host failed at them
+pub outputs_end : (a b : Outside) (faults now wanted code : ℕ) → (code ≡ wanted) ⊎ (code ≡ 3) → IsDone wanted → faults ≤ now → (code ≡ 3 → Rose faults now) → RunEnds a b faults now code
+outputs_end a b faults now wanted code either done later cause =
+    let p = by_done done either in
     record {
       range = p.0;
       words = λ e. omega (arith, p.1, e);
@@ -59,10 +60,11 @@ results_end a b faults now wanted code either last later cause =
       cause = cause;
     }
   where
-    by_last : (wanted ≡ 0) ⊎ (wanted ≡ 5) → (code ≡ wanted) ⊎ (code ≡ 3) → (code ≤ 5) × ((code ≡ 0) ⊎ ((code ≡ 5) ⊎ (code ≡ 3)))
-    by_last (inl w) (inl e) = (omega arith, inl (omega arith))
-    by_last (inr w) (inl e) = (omega arith, inr (inl (omega arith)))
-    by_last w (inr e) = (omega arith, inr (inr e))
+    by_done : IsDone wanted → (code ≡ wanted) ⊎ (code ≡ 3) → (code ≤ 6) × ((code ≡ 0) ⊎ ((code ≡ 5) ⊎ ((code ≡ 6) ⊎ (code ≡ 3))))
+    by_done (inl w) (inl e) = (omega arith, inl (omega arith))
+    by_done (inr (inl w)) (inl e) = (omega arith, inr (inl (omega arith)))
+    by_done (inr (inr w)) (inl e) = (omega arith, inr (inr (inl (omega arith))))
+    by_done w (inr e) = (omega arith, inr (inr (inr e)))
 
 -- want of memory
 pub memory_ends : (a b : Outside) (faults now : ℕ) → OnlyReads a b → faults ≤ now → RunEnds a b faults now 4

@@ -4,10 +4,11 @@ use Rattle.std.specs.Prelude.{IfSome, ◌⊎◌}
 use Rattle.std.proofs.lemmas.Bool.Decides.{nat_tests}
 use Rattle.ras_host.specs.Told.{Bytes, File, Outside, HostCall, host_call_of, calls_of, HostAction, Read, Create, MissCreate, Out, Err, Performs}
 use Rattle.ras_host.specs.ToldLaws.{performs_append, performs_then, calls_append}
-use Rattle.ras_words.specs.Commands.{run_of}
+use Rattle.ras_words.specs.Commands.{command_of}
 use Rattle.ras_cli.specs.Refusals.{usage}
 use Rattle.ras_cli.specs.declared.status.Exit.TheVariants as exits
-use Rattle.ras_cli.specs.Plan.{Planned, calls_then, planned_by, line_written}
+use Rattle.ras_cli.specs.Plan.{Planned, calls_then, line_written}
+use Rattle.ras_cli.specs.Plans.{planned_by}
 use Rattle.ras_cli.specs.Reaches.{Made}
 use Rattle.ras_cli.specs.Follows.{IsFailed, IsCut, Cuts, AreReads, IsStopped, IsFront, MakesFront, Follows, WritesLine}
 
@@ -63,15 +64,6 @@ follows_reads a b c reads rest code all h g = record {
 
 pub follows_read : (a b c : Outside) (name : Bytes) (limit : ℕ) (rest : Planned) (code : ℕ) → Performs a b (Read name limit ∷ []) → Follows b c rest code → Follows a c (calls_then (Read name limit ∷ []) rest) code
 follows_read a b c name limit rest code h g = follows_reads a b c (Read name limit ∷ []) rest code (tt, tt) h g
-
--- a call that was made, and then the others, of which none wants memory
-pub follows_then : (a b c : Outside) (action : HostAction) (actions : List HostAction) (code status : ℕ) → status ≢ 4 → Performs a b (action ∷ []) → Follows b c (planned code actions) status → Follows a c (planned code (action ∷ actions)) status
-follows_then a b c action actions code status no4 h g = record {
-  status = g.status;
-  whole = λ no3 n4. performs_then a b c action actions h (g.whole no3 n4);
-  cut = λ e. let k = g.cut e in (action ∷ k.0, inr (k.0, refl, k.1), performs_then a b c action k.0 h k.2);
-  stopped = λ e. absurd (no4 e);
-}
 
 -- ---- writes, one after the other
 
@@ -129,7 +121,7 @@ not_four code n (inl h) no4 e = no4 (sym h ∙ e)
 not_four code n (inr h) no4 e = three≢four 3 4 refl refl (sym h ∙ e)
 
 -- words that ask for nothing
-pub refused_words : (files : Option (List File)) (words : List Bytes) (a b : Outside) (code : ℕ) → run_of words ≡ None
+pub refused_words : (files : Option (List File)) (words : List Bytes) (a b : Outside) (code : ℕ) → command_of words ≡ None
     → Follows a b (line_written exits.Usage usage) code → IfSome files (λ fs. Follows a b (planned_by words fs) code)
 refused_words None words a b code e h = tt
 refused_words (Some fs) words a b code e h = rw e h

@@ -17,13 +17,13 @@ use Rattle.ras_machine.specs.Machine.{StackMachine, faulty_run, ending_in}
 use Rattle.ras_machine.specs.Ways.{Way, AsFlat, AtFlips, AtInjection, way_ending, EndsBy, KeepsToFlat}
 use Rattle.ras_machine.proofs.FlatRuns.{flat_stops}
 use Rattle.ras_machine.proofs.Keeping.{clear, at_most_more}
-use Rattle.ras_words.specs.Run.{RunRequest}
+use Rattle.ras_words.specs.Run.{MachineRequest, RunRequest}
 use Rattle.ras_cli.specs.declared.status.Exit.TheVariants.{Ended, HostFailed, NoMemory, StoppedAtError}
 use Rattle.ras_cli.specs.Status.{code_of}
-use Rattle.ras_cli.specs.Plan.{Planned, calls_then, carried_out, plan_of, settings_of, exit_of, outputs, results_of}
+use Rattle.ras_cli.specs.Plan.{Planned, calls_then, carried_out, run_plan, settings_of, exit_of, outputs, results_of}
 use Rattle.ras_cli.specs.Accepted.{IsAccepted, AreReadInputs, reads_of}
 use Rattle.ras_cli.specs.Follows.{Follows}
-use Rattle.ras_cli.specs.Headline.{IsWholeRun, Completes, way_exit, WritesBy, Headline}
+use Rattle.ras_cli.specs.Headline.{way_exit, WritesBy, Headline}
 use Rattle.ras_cli.proofs.AcceptedLemmas.{planned_accepted, accepted_once}
 
 -- ---- statuses
@@ -32,7 +32,7 @@ use Rattle.ras_cli.proofs.AcceptedLemmas.{planned_accepted, accepted_once}
 flat_exit : (given : Given) (left n : ℕ) (s : FlatState) → exit_of (flat_run given left n s).ending.stop ≡ Ended
 flat_exit given left n s = flat_stops (λ stop. exit_of stop ≡ Ended) (λ reason. refl) (λ reboot_kind. refl) refl refl given left n s
 
-either_exit : (stop : Stop) → (code_of (exit_of stop) ≡ code_of Ended) ⊎ (code_of (exit_of stop) ≡ code_of StoppedAtError)
+pub either_exit : (stop : Stop) → (code_of (exit_of stop) ≡ code_of Ended) ⊎ (code_of (exit_of stop) ≡ code_of StoppedAtError)
 either_exit (stops.Shutdown reason) = inl refl
 either_exit (stops.Reboot reboot_kind) = inl refl
 either_exit stops.Budget = inl refl
@@ -42,9 +42,15 @@ either_exit (stops.Injected bank rec) = inr refl
 
 -- ---- outputs
 
+-- every output of a run is whole: its console, its files and its report were written, and its status says how it stopped
+record IsWholeRun (run : RunRequest) (faulty : StackMachine) (before after : Outside) (code : ℕ) : Type 0 where
+  either : (code ≡ code_of Ended) ⊎ (code ≡ code_of StoppedAtError)
+  status : code ≡ code_of (exit_of (ending_in faulty).stop)
+  written : Performs before after (reads_of run.machine ++ (results_of run faulty).actions)
+
 -- what was done is the plan of the accepted files
 is_whole : (files : List File) (run : RunRequest) (image : Program) (lines : List ScriptLine) (given : Given) (a b : Outside) (code : ℕ) → IsAccepted files run.machine image lines given
-    → Follows a b (carried_out (plan_of (Some run)) files) code → code ≢ code_of HostFailed → code ≢ code_of NoMemory
+    → Follows a b (carried_out (run_plan run) files) code → code ≢ code_of HostFailed → code ≢ code_of NoMemory
     → IsWholeRun run (faulty_run image (settings_of run.machine) given lines) a b code
 is_whole files run image lines given a b code k f no3 no4 =
     let faulty : StackMachine = faulty_run image (settings_of run.machine) given lines in
@@ -59,10 +65,6 @@ is_whole files run image lines given a b code k f no3 no4 =
     by_status : {s : ℕ} → code ≡ s → (s ≡ code_of Ended) ⊎ (s ≡ code_of StoppedAtError) → (code ≡ code_of Ended) ⊎ (code ≡ code_of StoppedAtError)
     by_status e (inl h) = inl (e ∙ h)
     by_status e (inr h) = inr (e ∙ h)
-
-pub all_complete : (files : Option (List File)) (run : RunRequest) (a b : Outside) (code : ℕ) → IfSome files (λ fs. Follows a b (carried_out (plan_of (Some run)) fs) code) → IfSome files (λ fs. Completes fs run a b code)
-all_complete None run a b code f = tt
-all_complete (Some fs) run a b code f = λ image lines given k no3 no4. is_whole fs run image lines given a b code k f no3 no4
 
 -- ---- the ways
 
@@ -101,17 +103,17 @@ keeps_machine run image lines given a b code faulty w it = record {
     writes none way ends = writes_by run image given lines faulty a b code w none way ends
 
 -- how a run keeps to the flat machine
-abbrev Keeps : Program → Settings → Given → List ScriptLine → Type 0
+abbrev pub Keeps : Program → Settings → Given → List ScriptLine → Type 0
 Keeps image settings given lines =
     let faulty = faulty_run image settings given lines in
     KeepsToFlat faulty.state.beyond lines (EndsBy given (flat_of image settings) lines (ending_in faulty) faulty.state)
 
 -- the files are accepted in one way
-same_accepted : (files : List File) (run : RunRequest) (image other : Program) (lines more : List ScriptLine) (given others : Given) → IsAccepted files run.machine image lines given → IsAccepted files run.machine other more others
-    → Keeps image (settings_of run.machine) given lines → Keeps other (settings_of run.machine) others more
+pub same_accepted : (files : List File) (run : MachineRequest) (image other : Program) (lines more : List ScriptLine) (given others : Given) → IsAccepted files run image lines given → IsAccepted files run other more others
+    → Keeps image (settings_of run) given lines → Keeps other (settings_of run) others more
 same_accepted files run image other lines more given others k h keeps =
-    let once = accepted_once files run.machine image other lines more given others k h in
-    let settings : Settings = settings_of run.machine in
+    let once = accepted_once files run image other lines more given others k h in
+    let settings : Settings = settings_of run in
     subst (λ (x : Program). Keeps x settings others more) once.same_image
     (subst (λ (x : List ScriptLine). Keeps image settings others x) once.same_lines
     (subst (λ (x : Given). Keeps image settings x lines) once.same_given keeps))
@@ -119,17 +121,17 @@ same_accepted files run image other lines more given others k h keeps =
 -- ---- the run of what was read
 
 pub run_headline : (files : Option (List File)) (run : RunRequest) (settings : Settings) (image : Program) (script : List ScriptLine) (given : Given) (a b : Outside) (code : ℕ) → settings ≡ settings_of run.machine
-    → IfSome files (λ fs. AreReadInputs fs run.machine image script given) → IfSome files (λ fs. Follows a b (carried_out (plan_of (Some run)) fs) code)
+    → IfSome files (λ fs. AreReadInputs fs run.machine image script given) → IfSome files (λ fs. Follows a b (carried_out (run_plan run) fs) code)
     → ((lines : List ScriptLine) → InRisingSteps lines script → code ≢ code_of NoMemory → Keeps image settings given lines) → IfSome files (λ fs. Headline fs run a b code)
 run_headline None run settings image script given a b code e k f keeps = tt
 run_headline (Some fs) run settings image script given a b code e k f keeps = λ other more others h no3 no4.
     keeps_machine run other more others a b code (faulty_run other (settings_of run.machine) others more) (is_whole fs run other more others a b code h f no3 no4)
-    (same_accepted fs run image other k.lines more given others k.is h
+    (same_accepted fs run.machine image other k.lines more given others k.is h
     (subst (λ (s : Settings). Keeps image s given k.lines) e (keeps k.lines k.rising no4)))
 
 -- a run that was refused had no accepted files
 pub refused_headline : (files : Option (List File)) (run : RunRequest) (a b : Outside) (code : ℕ) → 2 ≤ code → code ≤ 4
-    → IfSome files (λ fs. Follows a b (carried_out (plan_of (Some run)) fs) code) → IfSome files (λ fs. Headline fs run a b code)
+    → IfSome files (λ fs. Follows a b (carried_out (run_plan run) fs) code) → IfSome files (λ fs. Headline fs run a b code)
 refused_headline None run a b code low high f = tt
 refused_headline (Some fs) run a b code low high f = λ image lines given k no3 no4.
     absurd (impossible (is_whole fs run image lines given a b code k f no3 no4).either no3 no4)

@@ -8,3 +8,7 @@ pub mod TopLemmas
 pub mod Small
 pub mod PlanLemmas
 pub mod ReadsLemmas
+pub mod CompleteLemmas
+pub mod ComparisonLemmas
+pub mod DemoLemmas
+pub mod PrintLemmas

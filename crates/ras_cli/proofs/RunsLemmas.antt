@@ -1,5 +1,5 @@
 -- Runs under the lines of a script, in any order that keeps those of each step.
-use Rattle.std.proofs.Common.{◌≡◌, ℕ, List, Option, Some, refl, sym, ◌∙◌, ap, subst}
+use Rattle.std.proofs.Common.{◌≡◌, List, Some, refl, sym, ◌∙◌, ap, subst}
 use Rattle.elf_load.specs.Program.{Program}
 use Rattle.fault_script.specs.Steps.{InRisingSteps}
 use Rattle.fault_script.specs.declared.lines.ScriptLine.{ScriptLine}

@@ -2,7 +2,7 @@
 use Rattle.std.specs.Prelude.{◌≡◌, ◌≢◌, ℕ, ◌≤◌, List, [], ◌∷◌, ◌++◌, take, ◌⊎◌}
 use Rattle.ras_host.specs.Causes.{Rose}
 use Rattle.ras_host.specs.Told.{Bytes, Outside, Performs, HostCall, calls_of, HostAction, Read, Create, MissCreate, Out, Err}
-use Rattle.ras_cli.specs.declared.status.Exit.TheVariants.{Usage, Refused, HostFailed, NoMemory, StoppedAtError}
+use Rattle.ras_cli.specs.declared.status.Exit.TheVariants.{Usage, Refused, HostFailed, NoMemory, Silent}
 use Rattle.ras_cli.specs.Status.{code_of}
 use Rattle.ras_cli.specs.Plan.{Planned}
 
@@ -68,7 +68,7 @@ WritesLine before after = (reads : List HostAction) × (line : Bytes) × AreRead
 -- How a run ends over any host that counts its faults, before and now: where a file is refused one line was written, with
 -- want of memory nothing, and where a call of the host failed a fault was counted.
 pub record RunEnds (before after : Outside) (faults now code : ℕ) : Type 0 where
-  pub range : code ≤ code_of StoppedAtError
+  pub range : code ≤ code_of Silent
   pub words : code ≢ code_of Usage
   pub refused : code ≡ code_of Refused → WritesLine before after
   pub unwritten : code ≡ code_of NoMemory → OnlyReads before after

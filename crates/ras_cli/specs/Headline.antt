@@ -1,6 +1,6 @@
 -- The headline: a run under faults ends as the flat machine's does, or it stops at a word that was flipped twice, or at a critical
 -- error that was injected.
-use Rattle.std.specs.Prelude.{◌≡◌, ◌≢◌, ℕ, ◌⊎◌, List, ◌++◌, None}
+use Rattle.std.specs.Prelude.{◌≡◌, ◌≢◌, ℕ, List, ◌++◌, None}
 use Rattle.elf_load.specs.Program.{Program}
 use Rattle.fault_script.specs.declared.lines.ScriptLine.{ScriptLine}
 use Rattle.ras_firmware.specs.declared.firmware.Firmware.{Firmware}
@@ -13,22 +13,8 @@ use Rattle.ras_words.specs.Run.{RunRequest}
 use Rattle.ras_cli.specs.declared.status.Exit.{Exit}
 use Rattle.ras_cli.specs.declared.status.Exit.TheVariants.{Ended, HostFailed, NoMemory, StoppedAtError}
 use Rattle.ras_cli.specs.Status.{code_of}
-use Rattle.ras_cli.specs.Plan.{settings_of, exit_of, outputs, results_of}
+use Rattle.ras_cli.specs.Plan.{settings_of, outputs}
 use Rattle.ras_cli.specs.Accepted.{IsAccepted, reads_of}
-
--- every output of a run is whole: its console, its files and its report were written, and its status says how it stopped
-pub record IsWholeRun (run : RunRequest) (faulty : StackMachine) (before after : Outside) (code : ℕ) : Type 0 where
-  pub either : (code ≡ code_of Ended) ⊎ (code ≡ code_of StoppedAtError)
-  pub status : code ≡ code_of (exit_of (ending_in faulty).stop)
-  pub written : Performs before after (reads_of run.machine ++ (results_of run faulty).actions)
-
--- Whatever a script does, the run of an accepted image, script, input and schedule writes all of its outputs, unless a call of the host
--- failed or memory wanted.
-abbrev pub Completes : List File → RunRequest → Outside → Outside → ℕ → Type 0
-Completes files run before after code =
-    (image : Program) (lines : List ScriptLine) (given : Given) → IsAccepted files run.machine image lines given
-    → code ≢ code_of HostFailed → code ≢ code_of NoMemory
-    → IsWholeRun run (faulty_run image (settings_of run.machine) given lines) before after code
 
 -- how the program ends where a run ends in a way
 abbrev pub way_exit : Way → Exit

@@ -2,9 +2,16 @@ pub mod Status
 pub mod Files
 pub mod Refusals
 pub mod Plan
+pub mod ComparePlan
+pub mod DemoPlan
+pub mod PrintPlan
+pub mod Plans
 pub mod Writes
 pub mod Inputs
 pub mod Follows
 pub mod Reaches
 pub mod Accepted
 pub mod Headline
+pub mod Complete
+pub mod Comparison
+pub mod Both

@@ -19,7 +19,6 @@ use Rattle.ras_machine.specs.declared.ending.Ending.{Ending}
 use Rattle.ras_machine.specs.declared.settings.Settings.{Settings}
 use Rattle.ras_report.specs.Records.{file_bytes}
 use Rattle.ras_report.specs.Reports.{report_of}
-use Rattle.ras_words.specs.Commands.{run_of}
 use Rattle.ras_words.specs.Run.{MachineRequest, RunRequest}
 use Rattle.ras_cli.specs.declared.files.FileKind.{FileKind}
 use Rattle.ras_cli.specs.declared.files.FileKind.TheVariants as files
@@ -27,7 +26,7 @@ use Rattle.ras_cli.specs.declared.status.Exit.{Exit}
 use Rattle.ras_cli.specs.declared.status.Exit.TheVariants as exits
 use Rattle.ras_cli.specs.Files.{limit_of}
 use Rattle.ras_cli.specs.Status.{code_of}
-use Rattle.ras_cli.specs.Refusals.{usage, too_long, image_refused, script_line}
+use Rattle.ras_cli.specs.Refusals.{too_long, image_refused, script_line}
 
 -- ---- plans
 
@@ -171,11 +170,6 @@ results_of run m = record {
 abbrev pub results_plan : RunRequest → RunInputs → Plan Planned
 results_plan run inputs = Done (results_of run (faulty_run inputs.image (settings_of run.machine) inputs.given inputs.lines))
 
--- the plan of a run that the words ask for; where they ask for none, the usage line is written
-abbrev pub plan_of : Option RunRequest → Plan Planned
-plan_of None = Done (line_written exits.Usage usage)
-plan_of (Some run) = inputs_plan run.machine >>= results_plan run
-
--- the host calls and the status that these words ask for over these files
-abbrev pub planned_by : List Bytes → List File → Planned
-planned_by words files = carried_out (plan_of (run_of words)) files
+-- the plan of a run
+abbrev pub run_plan : RunRequest → Plan Planned
+run_plan run = inputs_plan run.machine >>= results_plan run

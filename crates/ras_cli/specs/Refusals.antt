@@ -8,6 +8,12 @@ use Rattle.fault_script.specs.declared.lines.ScriptError.{ScriptError}
 use Rattle.fault_script.specs.declared.lines.ScriptError.TheVariants as errors
 use Rattle.fault_script.specs.declared.lines.Why.{Why}
 use Rattle.fault_script.specs.declared.lines.Why.TheVariants as why
+use Rattle.acpi_tables.specs.declared.refused.TableRefused.{TableRefused}
+use Rattle.acpi_tables.specs.declared.refused.TableRefused.TheVariants as table
+use Rattle.cper_sections.specs.declared.reading.CperRefused.{CperRefused}
+use Rattle.cper_sections.specs.declared.reading.CperRefused.TheVariants as cper
+use Rattle.ras_read.specs.declared.refused.ReadRefused.{ReadRefused}
+use Rattle.ras_read.specs.declared.refused.ReadRefused.TheVariants as reading
 use Rattle.ras_cli.specs.declared.files.FileKind.{FileKind}
 use Rattle.ras_cli.specs.Files.{limit_of, word_of}
 
@@ -68,3 +74,32 @@ script_refused line cause = codes "ras: script refused: line " ++ decimal line +
 abbrev pub script_line : ScriptError → Bytes
 script_line (errors.Refused line cause) = script_refused line cause
 script_line errors.NoMemory = codes "ras: script refused: nomemory\n"
+
+-- which rule a CPER record breaks
+abbrev pub cper_text : CperRefused → Bytes
+cper_text cper.Short = codes "short"
+cper_text cper.Signature = codes "signature"
+cper_text cper.EndMark = codes "endmark"
+cper_text cper.Length = codes "length"
+cper_text cper.Sections = codes "sections"
+cper_text (cper.SectionPlace i) = codes "sectionplace"
+
+-- which rule a table or a status block breaks
+abbrev pub table_text : TableRefused → Bytes
+table_text table.Short = codes "short"
+table_text table.Signature = codes "signature"
+table_text table.Length = codes "length"
+table_text table.Sum = codes "sum"
+table_text (table.Source i) = codes "source"
+table_text (table.Entry i) = codes "entry"
+
+-- a file that breaks this rule at an offset
+abbrev pub refused_at : ℕ → Bytes → Bytes
+refused_at at rule = codes "ras: file refused at " ++ decimal at ++ codes ": " ++ rule ++ codes "\n"
+
+-- a file that isn't printed
+abbrev pub file_refused : ReadRefused → Bytes
+file_refused reading.Kind = refused_at 0 (codes "kind")
+file_refused (reading.Bad at why) = refused_at at (cper_text why)
+file_refused (reading.Table at why) = refused_at at (table_text why)
+file_refused reading.NoMemory = refused_at 0 (codes "nomemory")

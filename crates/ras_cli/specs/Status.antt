@@ -20,3 +20,7 @@ IsOrFailed exit code = (code ≡ code_of exit) ⊎ (code ≡ code_of HostFailed)
 -- nothing was run: a file is refused, a call of the host failed, or memory wanted
 abbrev pub IsRefusal : ℕ → Type 0
 IsRefusal code = (code ≡ code_of Refused) ⊎ ((code ≡ code_of HostFailed) ⊎ (code ≡ code_of NoMemory))
+
+-- what was asked for was done
+abbrev pub IsDone : ℕ → Type 0
+IsDone code = (code ≡ code_of Ended) ⊎ ((code ≡ code_of StoppedAtError) ⊎ (code ≡ code_of Silent))

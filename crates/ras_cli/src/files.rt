@@ -3,7 +3,7 @@
 ghost use Rattle.std.specs.Prelude.{◌≡◌, ◌≤◌, length};
 ghost use Rattle.ras_cli.specs.Files.{limit_of, word_of};
 
-use ras_words::{IMAGE_LIMIT, INPUT_LIMIT, SCHEDULE_LIMIT, SCRIPT_LIMIT};
+use ras_words::{IMAGE_LIMIT, INPUT_LIMIT, PRINTED_LIMIT, SCHEDULE_LIMIT, SCRIPT_LIMIT};
 
 /// A file that a command reads.
 #[derive(Clone, Copy)]
@@ -12,6 +12,8 @@ pub enum FileKind {
     Script,
     Input,
     Schedule,
+    /// The file whose text `read` prints.
+    Printed,
 }
 
 impl FileKind {
@@ -24,6 +26,7 @@ impl FileKind {
             FileKind::Script => SCRIPT_LIMIT,
             FileKind::Input => INPUT_LIMIT,
             FileKind::Schedule => SCHEDULE_LIMIT,
+            FileKind::Printed => PRINTED_LIMIT,
         }
     }
 
@@ -37,6 +40,7 @@ impl FileKind {
             FileKind::Script => b"script",
             FileKind::Input => b"input",
             FileKind::Schedule => b"schedule",
+            FileKind::Printed => b"file",
         }
     }
 }

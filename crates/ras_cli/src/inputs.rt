@@ -9,7 +9,7 @@ ghost use Rattle.ras_words.specs.Read.{machine_in, IsInLimits};
 ghost use Rattle.ras_cli.specs.Inputs.{given_in};
 ghost use Rattle.ras_cli.specs.Files.{limit_of};
 ghost use Rattle.ras_cli.specs.Plan.{accepted_image, run_ram_words, file_plan, named_plan, image_in, image_plan};
-ghost use Rattle.ras_cli.specs.Plan.{input_plan, inputs_plan, lines_of, script_plan};
+ghost use Rattle.ras_cli.specs.Plan.{inputs_plan, lines_of, script_plan};
 ghost use Rattle.ras_cli.specs.Reaches.{Reaches, ReachesInputs, ReachesScript, Stops};
 
 use crate::files::FileKind;
@@ -32,8 +32,8 @@ pub struct Inputs {
     pub schedule: Vec<u8>,
 }
 
-// Reads a file, which is refused by a line where it is longer than its limit.
-fn read_file<H: Host>(
+/// Reads a file, which is refused by a line where it is longer than its limit.
+pub fn read_file<H: Host>(
     alloc: Global,
     file: FileKind,
     name: &str,
@@ -106,8 +106,8 @@ fn refuse_image<H: Host>(refusal: ElfRefused, host: &mut H) -> Status
     }
 }
 
-// The image that bytes are, which is refused by a line.
-fn accept_image<H: Host>(
+/// The image that bytes are, which is refused by a line.
+pub fn accept_image<H: Host>(
     alloc: Global,
     run: MachineWords<'_>,
     bytes: &[u8],
@@ -148,8 +148,8 @@ fn read_image<H: Host>(alloc: Global, run: MachineWords<'_>, host: &mut H) -> Re
     }
 }
 
-// The script that a text is, which is refused by a line.
-fn accept_script<H: Host>(
+/// The script that a text is, which is refused by a line.
+pub fn accept_script<H: Host>(
     alloc: Global,
     run: MachineWords<'_>,
     text: &[u8],

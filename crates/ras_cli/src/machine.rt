@@ -1,6 +1,6 @@
 //! The run of an image under a script.
 
-ghost use Rattle.std.specs.Prelude.{◌≡◌, ◌⊎◌, IfOk, List, length};
+ghost use Rattle.std.specs.Prelude.{◌≡◌, IfOk, List, length};
 ghost use Rattle.fault_script.specs.Fits.{IsScriptFor};
 ghost use Rattle.fault_script.specs.Steps.{InRisingSteps};
 ghost use Rattle.fault_script.specs.declared.lines.ScriptLine.{ScriptLine};
@@ -10,8 +10,7 @@ ghost use Rattle.ras_machine.specs.Settings.{IsInRange, ram_words};
 ghost use Rattle.ras_machine.specs.Ways.{EndsBy, KeepsToFlat};
 ghost use Rattle.ras_report.specs.Reports.{report_of};
 ghost use Rattle.ras_cli.specs.Inputs.{given_in};
-ghost use Rattle.ras_cli.specs.declared.status.Exit.TheVariants.{Ended, StoppedAtError};
-ghost use Rattle.ras_cli.specs.Status.{code_of};
+ghost use Rattle.ras_cli.specs.Status.{code_of, IsDone};
 ghost use Rattle.ras_cli.specs.Plan.{exit_of};
 
 use crate::inputs::Inputs;
@@ -34,7 +33,7 @@ pub struct Results {
 // How the program ends where a run stopped so.
 fn exit_of(stop: Stop) -> Exit
     ensures exit { result ≡ exit_of stop }
-    ensures either { (code_of result ≡ code_of Ended) ⊎ (code_of result ≡ code_of StoppedAtError) }
+    ensures done { IsDone (code_of result) }
 {
     match stop {
         Stop::Shutdown(_) => Exit::Ended,
@@ -59,8 +58,7 @@ pub fn run_machine(alloc: Global, inputs: &Inputs, settings: &Settings) -> Resul
         (given_in inputs.now) lines) }
     ensures exit { IfOk result
         (λ results. results.exit ≡ exit_of (ending_in results.machine).stop) }
-    ensures either { IfOk result (λ results.
-        (code_of results.exit ≡ code_of Ended) ⊎ (code_of results.exit ≡ code_of StoppedAtError)) }
+    ensures done { IfOk result (λ results. IsDone (code_of results.exit)) }
     ensures report { IfOk result (λ results. let m = results.machine.state in
         results.report.items
         ≡ report_of (ending_in results.machine) m.firmware.records m.beyond

@@ -1,9 +1,13 @@
-//! The program `ras`: an image is run under a script of faults, and its console, its error records
-//! and a report are written.
+//! The program `ras`: an image is run under a script of faults, by itself or beside the flat machine,
+//! and its console, its error records, reports and a verdict are written; or records are printed.
 //!
 //! `main` takes the words of the command line and makes the host. All else is `ras_main`.
 #![tactic(auto)]
 
+#[cfg(test)]
+mod command_tests;
+mod compare;
+mod demo;
 #[cfg(test)]
 mod file_tests;
 mod files;
@@ -13,6 +17,7 @@ mod guest_tests;
 mod helpers;
 mod inputs;
 mod machine;
+mod printing;
 #[cfg(test)]
 mod record_tests;
 mod refusals;

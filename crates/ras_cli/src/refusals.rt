@@ -4,11 +4,15 @@ ghost use Rattle.std.specs.Prelude.{◌≡◌, ◌+◌, ◌≤◌, ◌++◌, len
 ghost use Rattle.arrayvec.specs.ArrayVec.{array_vec_len};
 ghost use Rattle.ras_cli.specs.declared.text.TheConstants.{TEXT_ROOM};
 ghost use Rattle.ras_cli.specs.Refusals.{too_long, segment_text, rule_text, image_refused, why_text, script_refused};
+ghost use Rattle.ras_cli.specs.Refusals.{cper_text, table_text, refused_at, file_refused};
 
 use crate::files::FileKind;
 use crate::text::{Text, push_number, push_text};
+use acpi_tables::TableRefused;
+use cper_sections::CperRefused;
 use elf_load::ElfRefused;
 use fault_script::Why;
+use ras_read::ReadRefused;
 
 /// The line for words that ask for nothing.
 pub const USAGE: &[u8] =
@@ -106,4 +110,61 @@ pub fn script_refused(line: u32, why: Why) -> Text
     push_text(&mut text, why_text(why));
     push_text(&mut text, b"\n");
     text
+}
+
+// Which rule a CPER record breaks.
+fn cper_text(why: CperRefused) -> &'static [u8]
+    ensures text { result.now ≡ cper_text why }
+    ensures short { length result.now ≤ 12 }
+{
+    match why {
+        CperRefused::Short => b"short",
+        CperRefused::Signature => b"signature",
+        CperRefused::EndMark => b"endmark",
+        CperRefused::Length => b"length",
+        CperRefused::Sections => b"sections",
+        CperRefused::SectionPlace(_) => b"sectionplace",
+    }
+}
+
+// Which rule a table or a status block breaks.
+fn table_text(why: TableRefused) -> &'static [u8]
+    ensures text { result.now ≡ table_text why }
+    ensures short { length result.now ≤ 12 }
+{
+    match why {
+        TableRefused::Short => b"short",
+        TableRefused::Signature => b"signature",
+        TableRefused::Length => b"length",
+        TableRefused::Sum => b"sum",
+        TableRefused::Source(_) => b"source",
+        TableRefused::Entry(_) => b"entry",
+    }
+}
+
+// The line for a file that breaks this rule at an offset.
+fn refused_at(at: u32, rule: &[u8]) -> Text
+    requires { length rule.now ≤ 12 }
+    ensures { result.items ≡ refused_at at rule.now }
+{
+    let mut text = Text::new();
+    push_text(&mut text, b"ras: file refused at ");
+    push_number(&mut text, u64::from(at));
+    push_text(&mut text, b": ");
+    push_text(&mut text, rule);
+    push_text(&mut text, b"\n");
+    text
+}
+
+/// The line for a file that isn't printed, by its first place that is refused: the offset of a record,
+/// of a table or of a status block, or 0 for a file of another kind.
+pub fn file_refused(refusal: ReadRefused) -> Text
+    ensures { result.items ≡ file_refused refusal }
+{
+    match refusal {
+        ReadRefused::Kind => refused_at(0, b"kind"),
+        ReadRefused::Bad { at, why } => refused_at(at, cper_text(why)),
+        ReadRefused::Table { at, why } => refused_at(at, table_text(why)),
+        ReadRefused::NoMemory => refused_at(0, b"nomemory"),
+    }
 }

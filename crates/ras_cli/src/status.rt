@@ -24,7 +24,7 @@ pub enum Exit {
     NoMemory,
     /// The run stopped at an error.
     StoppedAtError,
-    /// Two machines differ, and no error was seen.
+    /// What the run shows is not what the flat machine's shows, and no error was seen.
     Silent,
 }
 

@@ -186,6 +186,48 @@ fn runs_images(rt: HostRuntime) -> Result<(), Fail> {
     Ok(())
 }
 
+#[test]
+fn compares_with_the_flat_machine(rt: HostRuntime) -> Result<(), Fail> {
+    for (line, code, out, err) in [
+        (
+            "compare load --raw --script thrice --ram-mib 1",
+            6,
+            "\x07",
+            "stop=shutdown:0 steps=6 records=1 dropped=0 beyond=0:0x0000000080000040\nregs pc=0x0000000080000018 x5=0x0000000080000000 x17=0x0000000000000008\nflat stop=shutdown:0 steps=6\nflat regs pc=0x0000000080000018 x5=0x0000000080000000 x17=0x0000000000000008\nverdict silent\n",
+        ),
+        (
+            "compare hello --raw --script once --ram-mib 1",
+            0,
+            "H",
+            "stop=shutdown:0 steps=5 records=1 dropped=0 beyond=none\nregs pc=0x0000000080000014 x17=0x0000000000000008\nflat stop=shutdown:0 steps=5\nflat regs pc=0x0000000080000014 x17=0x0000000000000008\nverdict same\n",
+        ),
+        (
+            "compare hello --raw --script twice --ram-mib 1",
+            5,
+            "",
+            "stop=consumed:0x0000000080000008:fetch:0x0000000080000008 steps=2 records=2 dropped=0 beyond=none\nregs pc=0x0000000080000008 x10=0x0000000000000048 x17=0x0000000000000001\nflat stop=shutdown:0 steps=5\nflat regs pc=0x0000000080000014 x17=0x0000000000000008\nverdict uncorrected\n",
+        ),
+        (
+            "compare harts --raw --harts 2 --ram-mib 1",
+            0,
+            "H",
+            "stop=shutdown:0 steps=22 records=0 dropped=0 beyond=none\nregs pc=0x000000008000001c x17=0x000000000048534d\nhart 1 started pc=0x000000008000003c x17=0x0000000000000008\nflat stop=shutdown:0 steps=22\nflat regs pc=0x000000008000001c x17=0x000000000048534d\nflat hart 1 started pc=0x000000008000003c x17=0x0000000000000008\nverdict same\n",
+        ),
+        (
+            "compare hello --raw --script missing --ram-mib 1",
+            3,
+            "",
+            "",
+        ),
+    ] {
+        let mut host = host_of_all(rt.alloc())?;
+        assert_eq!(rt; called(rt.alloc(), line, &mut host)?, code, "{line}");
+        assert!(rt; host.written_out() == out.as_bytes(), "{line}");
+        assert!(rt; host.written_err() == err.as_bytes(), "{line}");
+    }
+    Ok(())
+}
+
 // The default of 16 MiB, and the most.
 #[test]
 fn runs_with_much_ram(rt: HostRuntime) -> Result<(), Fail> {
@@ -204,13 +246,13 @@ fn runs_with_much_ram(rt: HostRuntime) -> Result<(), Fail> {
 fn runs_over_a_host_that_never_fails(rt: HostRuntime) -> Result<(), Fail> {
     let alloc = rt.alloc();
     let mut host = SteadyHost::make(alloc, 4096)?;
-    host.add_file("hello", image_of(alloc, &HELLO)?.as_slice())?;
-    let line = "run hello --raw --ram-mib 1";
+    host.add_file("harts", image_of(alloc, &HARTS)?.as_slice())?;
+    let line = "run harts --raw --harts 2 --ram-mib 1";
     assert_eq!(rt; called(alloc, line, &mut host)?, 0);
     assert!(rt; host.written_out() == b"H".as_slice());
     assert!(rt;
         host.written_err()
-            == b"stop=shutdown:0 steps=5 records=0 dropped=0 beyond=none\nregs pc=0x0000000080000014 x17=0x0000000000000008\n".as_slice()
+            == b"stop=shutdown:0 steps=22 records=0 dropped=0 beyond=none\nregs pc=0x000000008000001c x17=0x000000000048534d\nhart 1 started pc=0x000000008000003c x17=0x0000000000000008\n".as_slice()
     );
     Ok(())
 }
@@ -223,7 +265,12 @@ fn refuses(rt: HostRuntime) -> Result<(), Fail> {
         ("run hello --poll 1", 1, USAGE),
         ("run hello --harts 5", 1, USAGE),
         ("run hello 100", 1, USAGE),
-        ("compare hello", 1, USAGE),
+        ("compare hello --records r", 1, USAGE),
+        ("compare", 1, USAGE),
+        ("read", 1, USAGE),
+        ("read hello --raw", 1, USAGE),
+        ("demo 0x", 1, USAGE),
+        ("demo 18446744073709551616", 1, USAGE),
         ("run empty --ram-mib 1", 2, "ras: image refused: short\n"),
         (
             "run once --raw --script hello --ram-mib 1",
@@ -309,6 +356,7 @@ fn names_the_limits_of_files(rt: HostRuntime) {
             FileKind::Schedule,
             "ras: schedule too long: limit 16777216\n",
         ),
+        (FileKind::Printed, "ras: file too long: limit 16777216\n"),
     ] {
         assert!(rt; too_long(file).as_slice() == line.as_bytes(), "{line}");
     }

@@ -1,11 +1,11 @@
 //! What the program writes at its end.
 
-ghost use Rattle.std.specs.Prelude.{◌≡◌, ◌≢◌, ◌≤◌, ◌⊎◌, option_map, OnOk, OnErr};
+ghost use Rattle.std.specs.Prelude.{◌≡◌, ◌≢◌, ◌≤◌, ℕ, List, option_map, OnOk, OnErr};
 ghost use Rattle.ras_host.specs.Causes.{Rose};
-ghost use Rattle.ras_host.specs.Told.{Performs};
+ghost use Rattle.ras_host.specs.Told.{HostAction, Outside, Performs};
 ghost use Rattle.ras_words.specs.Read.{run_in};
-ghost use Rattle.ras_cli.specs.declared.status.Exit.TheVariants.{Ended, Refused, HostFailed, NoMemory, StoppedAtError};
-ghost use Rattle.ras_cli.specs.Status.{code_of, IsOrFailed, IsRefusal};
+ghost use Rattle.ras_cli.specs.declared.status.Exit.TheVariants.{Refused, HostFailed, NoMemory};
+ghost use Rattle.ras_cli.specs.Status.{code_of, IsDone, IsOrFailed, IsRefusal};
 ghost use Rattle.ras_cli.specs.Plan.{line_written, named_file};
 ghost use Rattle.ras_cli.specs.Writes.{pieces_in};
 ghost use Rattle.ras_cli.specs.Reaches.{Made};
@@ -42,6 +42,24 @@ pub fn refuse<H: Host>(host: &mut H, line: &[u8]) -> Status
     ensures later { H.faults host.old ≤ H.faults host.new }
 {
     write_last(host, Exit::Refused, line)
+}
+
+/// Ends the program after its outputs were written, or a call of the host failed at one.
+pub fn end_written(written: Result<(), HostFault>, exit: Exit) -> Status
+    requires { IsDone (code_of exit) }
+    ensures follows { (before after : Outside) (actions : List HostAction)
+        → OnOk written (Performs before after actions) → OnErr written (Cuts before after actions)
+        → Follows before after (record {
+          code = code_of exit;
+          actions = actions;
+        }) result.code }
+    ensures ends { (before after : Outside) (faults now : ℕ) → faults ≤ now
+        → OnErr written (Rose faults now) → RunEnds before after faults now result.code }
+{
+    match written {
+        Ok(()) => exit.status(),
+        Err(_) => Exit::HostFailed.status(),
+    }
 }
 
 /// The bytes that a run writes.
@@ -95,7 +113,7 @@ pub fn write_results<H: Host>(
     exit: Exit,
     outputs: &Outputs<'_>,
 ) -> Status
-    requires { (code_of exit ≡ code_of Ended) ⊎ (code_of exit ≡ code_of StoppedAtError) }
+    requires { IsDone (code_of exit) }
     ensures follows { Follows (H.told host.old) (H.told host.new)
         (record {
           code = code_of exit;
@@ -105,8 +123,6 @@ pub fn write_results<H: Host>(
     ensures ends { RunEnds (H.told host.old) (H.told host.new)
         (H.faults host.old) (H.faults host.new) result.code }
 {
-    match write_pieces(host, run, outputs) {
-        Ok(()) => exit.status(),
-        Err(_) => Exit::HostFailed.status(),
-    }
+    let written = write_pieces(host, run, outputs);
+    end_written(written, exit)
 }

@@ -36,6 +36,9 @@ run_in words = record {
 -- the command that was read
 abbrev pub command_in : declared.Command → commands.Command
 command_in (read.Run run) = commands.Run (run_in run)
+command_in (read.Compare machine) = commands.Compare (machine_in machine)
+command_in (read.Read file) = commands.Read file.now
+command_in (read.Demo number) = commands.Demo number
 
 -- its numbers are in their ranges
 pub record IsInLimits (words : MachineWords) : Type 0 where
@@ -51,3 +54,6 @@ pub record IsInLimits (words : MachineWords) : Type 0 where
 -- so are those of a command
 abbrev pub AreInLimits : declared.Command → Type 0
 AreInLimits (read.Run run) = IsInLimits run.machine
+AreInLimits (read.Compare machine) = IsInLimits machine
+AreInLimits (read.Read file) = Unit {0}
+AreInLimits (read.Demo number) = Unit {0}

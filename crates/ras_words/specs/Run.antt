@@ -71,3 +71,7 @@ run_given given = option_map (run_with given) (machine_given given)
 -- the run that the words after `run` ask for; none where they are refused
 abbrev pub run_after : List WordText → Option RunRequest
 run_after words = option_and_then run_given (given_by rows.run_options rows.run_plain words)
+
+-- the run of the machine that the words after `compare` ask for; none where they are refused
+abbrev pub compare_after : List WordText → Option MachineRequest
+compare_after words = option_and_then machine_given (given_by rows.compare_options rows.compare_plain words)

@@ -52,6 +52,14 @@ tables = record { name = codes "tables"; kind = Text }
 abbrev pub image : WordText
 image = codes "image"
 
+-- the file that is printed, a plain word
+abbrev pub file : WordText
+file = codes "file"
+
+-- the number of the demo workload, a plain word
+abbrev pub number : WordText
+number = codes "number"
+
 -- the options of `run`
 abbrev pub run_options : List Opt
 run_options = raw ∷ script ∷ input ∷ budget ∷ ram_mib ∷ poll ∷ patrol ∷ harts ∷ schedule ∷ records ∷ tables ∷ []
@@ -59,3 +67,19 @@ run_options = raw ∷ script ∷ input ∷ budget ∷ ram_mib ∷ poll ∷ patro
 -- the plain words of `run`
 abbrev pub run_plain : List WordText
 run_plain = image ∷ []
+
+-- the options of `compare`
+abbrev pub compare_options : List Opt
+compare_options = raw ∷ script ∷ input ∷ budget ∷ ram_mib ∷ poll ∷ patrol ∷ harts ∷ schedule ∷ []
+
+-- the plain words of `compare`
+abbrev pub compare_plain : List WordText
+compare_plain = image ∷ []
+
+-- the plain words of `read`, which has no options
+abbrev pub read_plain : List WordText
+read_plain = file ∷ []
+
+-- the plain words of `demo`, which has no options
+abbrev pub demo_plain : List WordText
+demo_plain = number ∷ []

@@ -3,14 +3,16 @@
 ghost use Rattle.std.specs.Prelude.{◌≡◌, ◌≢◌, ◌≤◌, IfOk, IfSome, None, Some, Err, option_map};
 ghost use Rattle.clap_words.specs.Table.{texts_of};
 ghost use Rattle.ras_bits.specs.declared.map.TheConstants.{LAST_STEP};
-ghost use Rattle.ras_words.specs.Run.{poll_in, machine_given, run_given, run_after};
-ghost use Rattle.ras_words.specs.Commands.{command_of};
+ghost use Rattle.ras_words.specs.Run.{poll_in, machine_given, run_given, run_after, compare_after};
+ghost use Rattle.ras_words.specs.Commands.{command_of, demo_after, plain_number, read_after};
 ghost use Rattle.ras_words.specs.Read.{command_in, machine_in, run_in, AreInLimits, IsInLimits};
 
 use crate::tables::{
-    BUDGET, HARTS, IMAGE, INPUT, PATROL, POLL, RAM_MIB, RAW, RECORDS, RUN, SCHEDULE, SCRIPT, TABLES,
+    BUDGET, COMPARE, DEMO, FILE, HARTS, IMAGE, INPUT, NUMBER, PATROL, POLL, RAM_MIB, RAW, READ,
+    RECORDS, RUN, SCHEDULE, SCRIPT, TABLES,
 };
 use clap_words::{Given, WordsError, read_given};
+use ras_numbers::number;
 use std::alloc::Global;
 
 /// What a command that runs the machine asks for.
@@ -54,6 +56,12 @@ pub struct RunWords<'a> {
 pub enum Command<'a> {
     /// `run`: a run of an image.
     Run(RunWords<'a>),
+    /// `compare`: a run of an image beside that of the flat machine.
+    Compare(MachineWords<'a>),
+    /// `read`: the text of a file of error records or of firmware's memory, by the file's name.
+    Read(&'a str),
+    /// `demo`: the comparison of the demo workload of a number.
+    Demo(u64),
 }
 
 // The steps from one drain to the next that were given.
@@ -104,8 +112,16 @@ fn run_in<'a>(given: &Given<'a>) -> Option<RunWords<'a>>
     })
 }
 
+// The number that was given as a plain word.
+fn plain_number(given: &Given<'_>) -> Option<u64>
+    ensures { result ≡ plain_number given.now }
+{
+    let text = given.value_of(NUMBER)?;
+    number(text.as_bytes())
+}
+
 // The run that the words after `run` ask for.
-fn read_run<'a>(alloc: Global, words: &'a [String]) -> Result<RunWords<'a>, WordsError>
+fn run_after<'a>(alloc: Global, words: &'a [String]) -> Result<RunWords<'a>, WordsError>
     ensures taken { IfOk result (λ run. run_after (texts_of words.entry.now) ≡ Some (run_in run)) }
     ensures limits { IfOk result (λ run. IsInLimits run.machine) }
     ensures refused { result ≡ Err WordsError.Refused → run_after (texts_of words.entry.now) ≡ None }
@@ -116,19 +132,56 @@ fn read_run<'a>(alloc: Global, words: &'a [String]) -> Result<RunWords<'a>, Word
     }
 }
 
+// The run of the machine that the words after `compare` ask for.
+fn compare_after<'a>(alloc: Global, words: &'a [String]) -> Result<MachineWords<'a>, WordsError>
+    ensures taken { IfOk result
+        (λ machine. compare_after (texts_of words.entry.now) ≡ Some (machine_in machine)) }
+    ensures limits { IfOk result IsInLimits }
+    ensures refused { result ≡ Err WordsError.Refused → compare_after (texts_of words.entry.now) ≡ None }
+{
+    match read_given(alloc, &COMPARE, words) {
+        Ok(given) => machine_in(&given).ok_or(WordsError::Refused),
+        Err(error) => Err(error),
+    }
+}
+
+// The file that the words after `read` name.
+fn read_after<'a>(alloc: Global, words: &'a [String]) -> Result<&'a str, WordsError>
+    ensures taken { IfOk result (λ file. read_after (texts_of words.entry.now) ≡ Some file.now) }
+    ensures refused { result ≡ Err WordsError.Refused → read_after (texts_of words.entry.now) ≡ None }
+{
+    match read_given(alloc, &READ, words) {
+        Ok(given) => given.value_of(FILE).ok_or(WordsError::Refused),
+        Err(error) => Err(error),
+    }
+}
+
+// The number that the words after `demo` give.
+fn demo_after(alloc: Global, words: &[String]) -> Result<u64, WordsError>
+    ensures taken { IfOk result (λ number. demo_after (texts_of words.now) ≡ Some number) }
+    ensures refused { result ≡ Err WordsError.Refused → demo_after (texts_of words.now) ≡ None }
+{
+    match read_given(alloc, &DEMO, words) {
+        Ok(given) => plain_number(&given).ok_or(WordsError::Refused),
+        Err(error) => Err(error),
+    }
+}
+
 /// Reads the words of a command line, without the program's own name: the first is the command,
-/// which is `run`.
+/// which is `run`, `compare`, `read` or `demo`.
 ///
-/// A word that begins with `--` names an option by its whole name: `--raw`, `--script FILE`,
-/// `--input FILE`, `--budget N`, `--ram-mib N`, `--poll N`, `--patrol N`, `--harts N`,
-/// `--schedule FILE`, `--records FILE` or `--tables FILE`. The value follows the first `=` in the word, or is the next word,
-/// which must not begin with `-` unless it is `-` alone. After the word `--` each word is plain.
-/// Options and plain words come in any order. A number is decimal digits, or `0x` and hexadecimal
-/// digits, within the limits of its option.
+/// The plain words are an image for `run` and `compare`, a file for `read`, and a number for `demo`.
+/// A word that begins with `--` names an option by its whole name: for `run` and `compare` `--raw`,
+/// `--script FILE`, `--input FILE`, `--budget N`, `--ram-mib N`, `--poll N`, `--patrol N`,
+/// `--harts N` and `--schedule FILE`, for `run` besides `--records FILE` and `--tables FILE`, and
+/// none for the others. The value follows the first `=` in the word, or is the next word, which must
+/// not begin with `-` unless it is `-` alone. After the word `--` each word is plain. Options and
+/// plain words come in any order. A number is decimal digits, or `0x` and hexadecimal digits, within
+/// the limits of its option, or below 2^64 for `demo`.
 ///
 /// Refused: no command or another one; an unknown option; another word that begins with `-` and is
 /// longer; an option given twice; a missing or an empty value; a value for `--raw`; a missing,
-/// surplus or empty image; a number that is none or out of its range.
+/// surplus or empty plain word; a number that is none or out of its range.
 pub fn read_words<'a>(alloc: Global, words: &'a [String]) -> Result<Command<'a>, WordsError>
     ensures taken { IfOk result (λ command. command_of (texts_of words.entry.now) ≡ Some (command_in command)) }
     ensures limits { IfOk result AreInLimits }
@@ -137,11 +190,16 @@ pub fn read_words<'a>(alloc: Global, words: &'a [String]) -> Result<Command<'a>,
     let Some((command, rest)) = words.split_first() else {
         return Err(WordsError::Refused);
     };
-    if command.as_str() != "run" {
-        return Err(WordsError::Refused);
-    }
-    match read_run(alloc, rest) {
-        Ok(run) => Ok(Command::Run(run)),
-        Err(error) => Err(error),
+    let name = command.as_str();
+    if name == "run" {
+        Ok(Command::Run(run_after(alloc, rest)?))
+    } else if name == "compare" {
+        Ok(Command::Compare(compare_after(alloc, rest)?))
+    } else if name == "read" {
+        Ok(Command::Read(read_after(alloc, rest)?))
+    } else if name == "demo" {
+        Ok(Command::Demo(demo_after(alloc, rest)?))
+    } else {
+        Err(WordsError::Refused)
     }
 }

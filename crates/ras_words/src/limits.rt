@@ -16,6 +16,9 @@ pub const INPUT_LIMIT: u64 = 16_777_216;
 /// The most bytes of a schedule.
 pub const SCHEDULE_LIMIT: u64 = 16_777_216;
 
+/// The most bytes of a file that is printed.
+pub const PRINTED_LIMIT: u64 = 16_777_216;
+
 /// How many steps a run may take where `--budget` is not given; the most is [`LAST_STEP`].
 pub const DEFAULT_BUDGET: u64 = 10_000_000;
 

@@ -72,10 +72,36 @@ pub(crate) const TABLES: OptionRow = OptionRow {
 /// The file of the image, a plain word.
 pub(crate) const IMAGE: &str = "image";
 
+/// The file that is printed, a plain word.
+pub(crate) const FILE: &str = "file";
+
+/// The number of the demo workload, a plain word.
+pub(crate) const NUMBER: &str = "number";
+
 /// The command `run`.
 pub(crate) const RUN: Table = Table {
     plain: &[IMAGE],
     options: &[
         RAW, SCRIPT, INPUT, BUDGET, RAM_MIB, POLL, PATROL, HARTS, SCHEDULE, RECORDS, TABLES,
     ],
+};
+
+/// The command `compare`.
+pub(crate) const COMPARE: Table = Table {
+    plain: &[IMAGE],
+    options: &[
+        RAW, SCRIPT, INPUT, BUDGET, RAM_MIB, POLL, PATROL, HARTS, SCHEDULE,
+    ],
+};
+
+/// The command `read`.
+pub(crate) const READ: Table = Table {
+    plain: &[FILE],
+    options: &[],
+};
+
+/// The command `demo`.
+pub(crate) const DEMO: Table = Table {
+    plain: &[NUMBER],
+    options: &[],
 };

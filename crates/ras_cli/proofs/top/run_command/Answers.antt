@@ -8,7 +8,7 @@ use Rattle.ras_machine.specs.Machine.{faulty_run}
 use Rattle.ras_cli.proofs.AcceptedLemmas.{are_read, refusal_low, refusal_high}
 use Rattle.ras_cli.proofs.FollowsLemmas.{if_some_all}
 use Rattle.ras_cli.proofs.PlanLemmas.{follows_value, stops_follow, made_ends}
-use Rattle.ras_cli.proofs.HeadlineLemmas.{run_headline, refused_headline, all_complete}
+use Rattle.ras_cli.proofs.HeadlineLemmas.{run_headline, refused_headline}
 use Rattle.ras_cli.proofs.top.run_command.Goals as goal
 
 pub returns-in-Ok-clause-follows : goal.returns-in-Ok-clause-follows
@@ -19,9 +19,6 @@ returns-in-Ok-clause-follows g c =
     (results_of run (faulty_run c.in-Ok.inputs.image s (given_by c.in-Ok.inputs.input.items c.in-Ok.inputs.schedule.items) k.lines)) c.run_inputs.result.code in
     follows_value (inputs_plan run.machine) (results_plan run) _ _ _ _ _ k.reached
     (if_some_all _ _ (λ files. subst results c.settings_of.ensures.settings (c.run_inputs.ensures.follows k.lines k.rising)))
-
-pub returns-in-Ok-clause-completes : goal.returns-in-Ok-clause-completes
-returns-in-Ok-clause-completes g c = all_complete _ (run_in c.args.run) _ _ _ (returns-in-Ok-clause-follows g c)
 
 pub returns-in-Ok-clause-headline : goal.returns-in-Ok-clause-headline
 returns-in-Ok-clause-headline g c =
@@ -37,9 +34,6 @@ pub returns-in-Err-clause-follows : goal.returns-in-Err-clause-follows
 returns-in-Err-clause-follows g c =
     let run = run_in c.args.run in
     stops_follow (inputs_plan run.machine) (results_plan run) _ _ _ _ _ c.in-Err.ensures.stopped
-
-pub returns-in-Err-clause-completes : goal.returns-in-Err-clause-completes
-returns-in-Err-clause-completes g c = all_complete _ (run_in c.args.run) _ _ _ (returns-in-Err-clause-follows g c)
 
 pub returns-in-Err-clause-headline : goal.returns-in-Err-clause-headline
 returns-in-Err-clause-headline g c =
