@@ -21,7 +21,7 @@ use Rattle.poison_mem.specs.declared.event.Class.{Class}
 use Rattle.poison_mem.specs.declared.event.Class.TheVariants.{Corrected, Deferred, Critical}
 use Rattle.std.specs.List.Sorted.{IsNonDecreasingBy}
 use Rattle.fault_script.specs.Steps.{step_of_line, InRisingSteps, GivesScript}
-use Rattle.fault_script.specs.Fits.{FitsRamAct, FitsRam, IsScriptFor}
+use Rattle.fault_script.specs.Fits.{FitsRamAct, FitsRam, AreReadable, IsScriptFor}
 use Rattle.fault_script.specs.ReadBack.{IsThese, IsReadAs}
 use Rattle.fault_script.specs.declared.lines.TheConstants.{MOST_LINES}
 use Rattle.fault_script.specs.declared.lines.Act.{Act}
@@ -264,8 +264,8 @@ reads_on ram_words number taken (line ∷ lines) small few fits =
     ∙ reads_on ram_words (number + 1) (taken ++ line ∷ []) lines small (omega (arith, length-append taken (line ∷ []))) fits.1
     ∙ ap Ok (append_assoc taken (line ∷ []) lines)
 
-read_back : (ram_words : ℕ) (lines : List ScriptLine) → ram_words < 2 ^ 32 → IsScriptFor ram_words lines → lines_in ram_words (script_text lines) ≡ Ok lines
-read_back ram_words lines small script = sym (all_read ram_words (script_text lines)) ∙ reads_on ram_words 0 [] lines small (omega (arith, script.few)) script.fit
+pub lines_read_back : (ram_words : ℕ) (lines : List ScriptLine) → ram_words < 2 ^ 32 → AreReadable ram_words lines → lines_in ram_words (script_text lines) ≡ Ok lines
+lines_read_back ram_words lines small readable = sym (all_read ram_words (script_text lines)) ∙ reads_on ram_words 0 [] lines small (omega (arith, readable.0)) readable.1
 
 ok_same : (xs ys : List ScriptLine) (read : Result (List ScriptLine) ScriptError) → read ≡ Ok xs → read ≡ Ok ys → xs ≡ ys
 ok_same xs ys read p q = cc
@@ -281,7 +281,7 @@ these lines read (Ok others) e rising given =
 
 pub written_read : (ram_words : ℕ) (lines : List ScriptLine) → ram_words < 2 ^ 32 → IsScriptFor ram_words lines → IsReadAs ram_words (script_text lines) lines
 written_read ram_words lines small script =
-    let accepted = read_back ram_words lines small script in
+    let accepted = lines_read_back ram_words lines small (script.few, script.fit) in
     record {
       accepted = accepted;
       answered = λ answer given. these lines (lines_in ram_words (script_text lines)) answer accepted script.rising given;

@@ -14,7 +14,7 @@ mod scripts;
 mod words;
 mod writing;
 
-pub use laws::written_reads_back;
+pub use laws::{written_lines_read_back, written_reads_back};
 pub use lines::{Act, ScriptError, ScriptLine, Why};
 pub use reading::is_readable;
 pub use scripts::Script;

@@ -65,4 +65,19 @@ mod tests {
             assert_eq!(rt; syndrome_entry(s), entry, "{s:#x}");
         }
     }
+
+    #[test]
+    fn entries_that_are_clean_fixed_and_bad(rt: HostRuntime) {
+        let mut clean = 0u32;
+        let mut fixed = 0u32;
+        let mut bad = 0u32;
+        for s in 0..=255u8 {
+            match syndrome_entry(s) {
+                72 => clean = clean.saturating_add(1),
+                73 => bad = bad.saturating_add(1),
+                _ => fixed = fixed.saturating_add(1),
+            }
+        }
+        assert_eq!(rt; (clean, fixed, bad), (1, 72, 183));
+    }
 }
