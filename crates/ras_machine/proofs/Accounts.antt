@@ -242,7 +242,7 @@ stopped_emits calls fatal few = record {
   region = region_shown (after_calls calls).memory (fatal_view (after_calls calls).banks fatal) (no_region calls);
 }
 
-pub run_emits_each_once : (image : Program) (settings : Settings) (given : Given) (script : List ScriptLine) (ending : Ending) → settings.budget ≤ LAST_STEP
+run_emits_each_once : (image : Program) (settings : Settings) (given : Given) (script : List ScriptLine) (ending : Ending) → settings.budget ≤ LAST_STEP
     → (faulty_run image settings given script).ended ≡ Some ending
     → EmitsEachOnce (run_calls image settings given script) (fatal_of ending.stop) (faulty_run image settings given script).state.firmware
 run_emits_each_once image settings given script ending low ended = subst (EmitsEachOnce calls (fatal_of ending.stop)) (sym is) (stopped_emits calls (fatal_of ending.stop) few)

@@ -4,7 +4,7 @@ use Rattle.std.specs.Prelude.{slice_index_or}
 use Rattle.std.proofs.lemmas.List.{take_more, take_more_set, take_all, length-set, length-map, get_or-map}
 use Rattle.mem_stack.specs.Stack.{StackLines, stack_flips, fresh_stack, loaded_stack}
 use Rattle.mem_stack.specs.StackLaws.{loaded_words}
-use Rattle.rv64_hart.specs.State.{ArchitecturalState, reset, started_at}
+use Rattle.rv64_hart.specs.State.{ArchitecturalState, reset}
 use Rattle.rv64_hart.specs.Harts.{hart_at, stopped_from, first_harts}
 use Rattle.elf_load.specs.Program.{Program}
 use Rattle.ras_firmware.specs.Firmware.{new_firmware}
@@ -35,11 +35,6 @@ pub record LoadedTo (words : List ℕ) (n : ℕ) (s : StackLines) : Type 0 where
   pub len : length s.below.below ≡ length words
   pub first : take n s.below.below ≡ take n (loaded_stack words).below.below
 
-pub none_loaded : (words : List ℕ) (s before : StackLines) → s ≡ fresh_stack before.below.below → length before.below.below ≡ length words → LoadedTo words 0 s
-none_loaded words s before is len =
-    let cells = ap (λ (s : StackLines). s.below.below) is in
-    record { fresh = is ∙ ap fresh_stack (sym cells); len = ap length cells ∙ len; first = refl }
-
 pub one_more_loaded : (words : List ℕ) (n v : ℕ) (s after : StackLines) → LoadedTo words n s → n < length words → v ≡ slice_index words n → after ≡ stack_flips.cells.load s n v
     → LoadedTo words (n + 1) after
 one_more_loaded words n v s after it inside is loaded =
@@ -61,9 +56,6 @@ stopped_hart id zero entry i d inside = absurd (omega arith)
 stopped_hart id (suc n) entry zero d inside = ap (λ id. reset id entry) (omega arith)
 stopped_hart id (suc n) entry (suc i) d inside = stopped_hart (id + 1) n entry i d (omega arith) ∙ ap (λ id. reset id entry) (omega arith)
 
-pub hart_zero : (n entry : ℕ) → started_at 0 entry 0 ≡ hart_at (first_harts n entry) 0
-hart_zero n entry = refl
-
 pub hart_behind : (n entry i : ℕ) → 0 < i → i < n → reset i entry ≡ hart_at (first_harts n entry) i
 hart_behind n entry zero some inside = absurd (omega arith)
 hart_behind n entry (suc i) some inside = sym (stopped_hart 1 (n - 1) entry i (reset (suc i) 0) (omega arith) ∙ ap (λ id. reset id entry) (omega arith))
@@ -72,9 +64,6 @@ hart_behind n entry (suc i) some inside = sym (stopped_hart 1 (n - 1) entry i (r
 pub record RestartedTo (harts : List ArchitecturalState) (count entry n : ℕ) : Type 0 where
   pub len : length harts ≡ count
   pub first : take n harts ≡ take n (first_harts count entry)
-
-pub none_restarted : (harts : List ArchitecturalState) (entry : ℕ) → RestartedTo harts (length harts) entry 0
-none_restarted harts entry = record { len = refl; first = refl }
 
 pub one_more_restarted : (harts after : List ArchitecturalState) (count entry n : ℕ) (h : ArchitecturalState) → RestartedTo harts count entry n → n < count
     → h ≡ hart_at (first_harts count entry) n → after ≡ slice_set harts n h → RestartedTo after count entry (n + 1)

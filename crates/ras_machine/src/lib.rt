@@ -3,7 +3,6 @@
 //! Only `Machine::make` and `Flat::make` take memory.
 #![tactic(auto)]
 
-mod accounted;
 mod count_downs;
 mod ending;
 mod first_line;
@@ -20,7 +19,6 @@ mod state;
 mod state_calls;
 mod undisturbed;
 
-pub use accounted::runs_emit_each_event_once;
 pub use count_downs::count_downs_are_calls;
 pub use ending::{Ending, Stop};
 pub use flat::Flat;

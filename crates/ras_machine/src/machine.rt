@@ -201,8 +201,8 @@ impl Machine {
         }
     }
 
-    // Makes the steps in which nothing but a hart acts, up to the first in which something else may.
-    // `at` is the number of the first line of this step or a later one, and stays so.
+    // Makes the steps in which nothing but a hart acts, up to the first in which something else
+    // may. `at` is the number of the first line of this step or a later one, and stays so.
     fn go_on_undisturbed(&mut self, input: &[u8], schedule: &[u8], lines: &[ScriptLine], at: usize)
         requires script { IsScriptFor (ram_words self.old.settings) lines.now }
         requires first { self.old.ended ≡ None → IsFirstLineOf self.old.state.steps lines.now at }

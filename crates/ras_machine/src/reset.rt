@@ -74,7 +74,8 @@ fn renew(firmware: &mut Firmware, console: &mut Console)
 }
 
 impl Machine {
-    /// Makes the machine what `Machine::make` makes of an image and these settings. It takes no memory.
+    /// Makes the machine what `Machine::make` makes of an image and these settings. It takes no
+    /// memory.
     ///
     /// The image has as many words as the machine's RAM.
     pub fn reset(&mut self, image: &Image)

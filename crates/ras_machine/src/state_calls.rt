@@ -1,4 +1,5 @@
-//! Calls that set parts of a machine, by which it takes over a state from elsewhere, as from a snapshot. No step makes them.
+//! Calls that set parts of a machine, by which it takes over a state from elsewhere, as from a
+//! snapshot. No step makes them.
 //!
 //! Each keeps all parts that it doesn't name, refuses nothing and takes no memory.
 
@@ -23,11 +24,12 @@ use rv64_hart::Hart;
 use scrubber::{Interval, Patrol};
 
 impl Machine {
-    /// Sets the settings, the number of completed steps, the word that the patrol scrubs next, how many bytes of the input the
-    /// harts took, and the step and word of the first third flip. The machine hasn't ended then.
+    /// Sets the settings, the number of completed steps, the word that the patrol scrubs next, how
+    /// many bytes of the input the harts took, and the step and word of the first third flip. The
+    /// machine hasn't ended then.
     ///
-    /// The settings are in range, with the RAM and the number of harts that the machine has. There are no more steps than the
-    /// budget, and both words are in RAM.
+    /// The settings are in range, with the RAM and the number of harts that the machine has. There
+    /// are no more steps than the budget, and both words are in RAM.
     pub fn set_run(
         &mut self,
         s: &Settings,
@@ -64,15 +66,17 @@ impl Machine {
         self.state.shared.set_hart(i, h);
     }
 
-    /// Empties both caches, and writes nothing back. What was stored and not yet written back is lost.
+    /// Empties both caches, and writes nothing back. What was stored and not yet written back is
+    /// lost.
     pub fn forget_all(&mut self)
         ensures { self.new ≡ with_memory (forgotten self.old.state.shared.memory) self.old }
     {
         self.state.shared.memory_mut().forget_all();
     }
 
-    /// Appends an entry to the list of its set of the first cache at level 1, of the second at level 2: it is the least recently
-    /// used there. The line is in RAM and not held by that cache, and the set has a way left.
+    /// Appends an entry to the list of its set of the first cache at level 1, of the second at
+    /// level 2: it is the least recently used there. The line is in RAM and not held by that cache,
+    /// and the set has a way left.
     pub fn place_last(&mut self, level: u8, h: &Held)
         requires level { IsCacheLevel level }
         requires first { level ≡ 1 → FirstHasRoomFor self.old.state.shared.memory h.now }
@@ -98,8 +102,9 @@ impl Machine {
 
     /// Sets record `rec` of bank `b`, and firmware's note of it.
     ///
-    /// The bank and the record exist, and the state is one that `Banks::set_rec_state` takes. A note is sound, names this record and
-    /// comes only with a kept view; where `rdip` is set, it equals the kept view.
+    /// The bank and the record exist, and the state is one that `Banks::set_rec_state` takes. A
+    /// note is sound, names this record and comes only with a kept view; where `rdip` is set, it
+    /// equals the kept view.
     pub fn set_record(&mut self, b: u8, rec: u8, s: &RecState, note: Option<RecordView>)
         requires bank { b < 3 }
         requires rec { rec < records_of b }
@@ -112,10 +117,11 @@ impl Machine {
         self.state.firmware.drain.set_note(b, rec, note);
     }
 
-    /// Sets the emitted views, how many others were dropped, and the views of the polled block. The boot error region is empty then.
+    /// Sets the emitted views, how many others were dropped, and the views of the polled block. The
+    /// boot error region is empty then.
     ///
-    /// At most 4,096 views are emitted, and none is dropped where there are fewer. At most five are polled, as many as there are records. Each view is sound and
-    /// names a record that exists.
+    /// At most 4,096 views are emitted, and none is dropped where there are fewer. At most five are
+    /// polled, as many as there are records. Each view is sound and names a record that exists.
     pub fn set_emitted(&mut self, v: &[RecordView], dropped: u64, polled: &[RecordView])
         requires kept { IsKept (record { views = v.now; left_out = dropped }) }
         requires few { length polled.now ≤ length all_records }

@@ -40,15 +40,6 @@ fn first_with_few(n: u64, left: u64, few: u64) -> u64
     }
 }
 
-/// The smaller of two steps.
-fn earlier(one: u64, other: u64) -> u64
-    ensures below { result ≤ one }
-    ensures low { result ≤ other }
-    ensures least { (n : ℕ) → n ≤ one → n ≤ other → n ≤ result }
-{
-    if one < other { one } else { other }
-}
-
 /// The step of line `at`, or the budget where that comes first or there is no such line.
 fn silent_until(lines: &[ScriptLine], at: usize, budget: u64) -> u64
     requires { IsNonDecreasingBy step_of_line lines.now }
@@ -60,7 +51,7 @@ fn silent_until(lines: &[ScriptLine], at: usize, budget: u64) -> u64
         → at_step n lines.now ≡ [] }
 {
     if at < lines.len() {
-        earlier(lines[at].step, budget)
+        lines[at].step.min(budget)
     } else {
         budget
     }
@@ -70,8 +61,8 @@ impl<B: FlipBus> MachineState<B> {
     ghost use Rattle.ras_machine.specs.Actions.{words_in, hart_acted, left_by, step_ending};
     ghost use Rattle.ras_machine.specs.Undisturbed.{step_begun};
 
-    /// The first step, this one or a later one, in which something else than a hart may act. `at` is
-    /// the number of the first line of this step or a later one, and is so up to there.
+    /// The first step, this one or a later one, in which something else than a hart may act. `at`
+    /// is the number of the first line of this step or a later one, and is so up to there.
     pub(crate) fn undisturbed_until(&mut self, budget: u64, lines: &[ScriptLine], at: usize) -> u64
         requires budget { self.old.steps ≤ budget }
         requires most { budget + self.old.poll + self.old.patrol.every < 2 ^ 64 }
@@ -91,11 +82,11 @@ impl<B: FlipBus> MachineState<B> {
         }
         let drain = first_with_few(n, self.poll.left(n), 2);
         let patrol = first_with_few(n, self.patrol.left(n), 1);
-        earlier(earlier(drain, patrol), silent_until(lines, at, budget))
+        silent_until(lines, at, budget).min(drain).min(patrol)
     }
 
-    /// Makes a step in which nothing but a hart acts. The ending that it brings, where it brings one,
-    /// is then in `ending`.
+    /// Makes a step in which nothing but a hart acts. The ending that it brings, where it brings
+    /// one, is then in `ending`.
     pub(crate) fn step_undisturbed(
         &mut self,
         input: &[u8],

@@ -50,10 +50,11 @@ fn verdict_by(is_at_error: bool, same: bool) -> Verdict
 
 /// The verdict on a run that ended as `e`, beside a run of the flat machine that ended as `fe`:
 /// `Uncorrected` exactly where it stopped at a poisoned word or at an injected critical error; else
-/// `Silent` exactly where console, stop, steps, harts or the place in the input differ; else `Same`.
+/// `Silent` exactly where console, stop, steps, harts or the place in the input differ; else
+/// `Same`.
 ///
-/// Where the flat machine made its whole run, and the other run keeps to it, as one of the same image
-/// under the same input and schedule does, `Silent` comes only where there was a third flip.
+/// Where the flat machine made its whole run, and the other run keeps to it, as one of the same
+/// image under the same input and schedule does, `Silent` comes only where there was a third flip.
 pub fn verdict(m: &Machine, e: &Ending, f: &Flat, fe: &Ending) -> Verdict
     ensures verdict { result ≡ verdict_of (faulty_shown m.now.state e.now)
         (flat_shown f.now.state fe.now) }

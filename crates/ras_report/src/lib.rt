@@ -15,4 +15,5 @@ pub use judging::verdict;
 pub use records::{FileBuf, records_file};
 pub use reports::{flat_report, registers, report};
 pub use stops::stop_text;
+pub use text::{REPORT_ROOM, Report};
 pub use verdicts::{Verdict, verdict_line};

@@ -9,7 +9,6 @@ ghost use Rattle.ras_report.specs.Harts.{hart_lines};
 use crate::harts::push_hart;
 use crate::stops::push_stop;
 use crate::text::{Report, push, push_address, push_number};
-use arrayvec::ArrayVec;
 use ras_bits::word_address;
 use ras_firmware::Records;
 use ras_machine::{Ending, Flat, Machine};
@@ -65,7 +64,7 @@ fn push_harts(text: &mut Report, m: &Machine)
 /// Replaces the contents of `out` by the report of a run that ended as `e`: a line with the stop,
 /// the steps, the numbers of records kept and dropped and the first third flip, and a line for each
 /// hart.
-pub fn report(m: &Machine, e: &Ending, out: &mut ArrayVec<u8, 4096>)
+pub fn report(m: &Machine, e: &Ending, out: &mut Report)
     ensures { out.new.items ≡ report_of e.now m.now.state.firmware.records m.now.state.beyond
         m.now.state.shared.harts m.now.settings.harts }
 {
@@ -75,7 +74,7 @@ pub fn report(m: &Machine, e: &Ending, out: &mut ArrayVec<u8, 4096>)
 }
 
 /// Replaces the contents of `out` by the lines of a machine's harts, as the report has them.
-pub fn registers(m: &Machine, out: &mut ArrayVec<u8, 4096>)
+pub fn registers(m: &Machine, out: &mut Report)
     ensures { out.new.items ≡ hart_lines [] m.now.state.shared.harts m.now.settings.harts }
 {
     out.clear();
@@ -109,7 +108,7 @@ fn push_flat_harts(text: &mut Report, f: &Flat)
 
 /// Replaces the contents of `out` by the report of a run of the flat machine that ended as `e`: a
 /// line with the stop and the steps, and a line for each hart, each of them behind `flat`.
-pub fn flat_report(f: &Flat, e: &Ending, out: &mut ArrayVec<u8, 4096>)
+pub fn flat_report(f: &Flat, e: &Ending, out: &mut Report)
     ensures { out.new.items ≡ flat_report_of e.now f.now.state.harts }
 {
     out.clear();

@@ -9,10 +9,10 @@ use arrayvec::ArrayVec;
 use itoa::Buffer;
 
 /// The most bytes of a report.
-pub(crate) const REPORT_ROOM: usize = 4_096;
+pub const REPORT_ROOM: usize = 4_096;
 
 /// The text of a report.
-pub(crate) type Report = ArrayVec<u8, REPORT_ROOM>;
+pub type Report = ArrayVec<u8, REPORT_ROOM>;
 
 /// Appends bytes that fit.
 pub(crate) fn push<const N: usize>(text: &mut ArrayVec<u8, N>, bytes: &[u8])
