@@ -13,7 +13,7 @@ use Rattle.ras_cli.specs.Files.{limit_of}
 use Rattle.ras_cli.specs.Status.{IsRefusal}
 use Rattle.ras_machine.specs.Machine.{faulty_run}
 use Rattle.ras_machine.specs.Schedule.{Given, given_by}
-use Rattle.ras_cli.specs.Plan.{Plan, Done, Refuse, Reading, RunInputs, calls_then, carried_out, is_longer, ◌>>=◌, file_plan, named_plan, accepted_image, image_in, image_plan, accepted_lines, lines_of, script_plan, input_plan, schedule_plan, inputs_plan, results_plan, run_plan, settings_of, results_of}
+use Rattle.ras_cli.specs.Plan.{Plan, Done, Refuse, Reading, RunInputs, calls_then, carried_out, is_longer, ◌>>=◌, file_plan, named_plan, accepted_image, image_in, image_plan, accepted_lines, script_in, script_plan, input_plan, schedule_plan, inputs_plan, results_plan, run_plan, settings_of, results_of}
 use Rattle.ras_cli.specs.Reaches.{value_in, reads_in, ComesTo, ReachesInputs}
 use Rattle.ras_cli.specs.Accepted.{named_read, reads_of, IsAccepted, AreReadInputs}
 use Rattle.ras_cli.proofs.Small.{same_cond}
@@ -63,8 +63,8 @@ image_reads run files image e =
 
 script_reads : (run : MachineRequest) (files : List File) (lines : List ScriptLine) → value_in (script_plan run) files ≡ Some lines → reads_in (script_plan run) files ≡ named_read Script run.script
 script_reads run files lines e =
-    let k = bound (named_plan Script run.script) (lines_of run) files lines e in
-    bind_reads (named_plan Script run.script) (lines_of run) files k.x k.first
+    let k = bound (named_plan Script run.script) (script_in run) files lines e in
+    bind_reads (named_plan Script run.script) (script_in run) files k.x k.first
     ∙ ap (λ (l : List HostAction). reads_in (named_plan Script run.script) files ++ l) (lines_read_none _ files)
     ∙ append-nil (reads_in (named_plan Script run.script) files) ∙ named_reads Script run.script files
 

@@ -113,7 +113,7 @@ module _ (settings : Settings) (inputs : RunInputs) (reads : List HostAction) (a
     no_two = λ few mild. compares_by w (clear inputs.lines faulty.state.beyond it.third (at_most_more inputs.lines few)) AsFlat (it.no_two few mild);
   }
 
-  compares : IsWhole reads (compared settings inputs) a b code → Keeps inputs.image settings inputs.given inputs.lines → Compares settings inputs faulty reads a b code
+  pub compares : IsWhole reads (compared settings inputs) a b code → Keeps inputs.image settings inputs.given inputs.lines → Compares settings inputs faulty reads a b code
   compares w it =
       let keeps = keeps_comparison w it in
       record { keeps = keeps; silent = silent_past code faulty.state.beyond (λ none. let way = keeps.ways none in (way.0, way.1.status)) }
@@ -136,7 +136,7 @@ some_inputs : (x y : RunInputs) → Some x ≡ Some y → x ≡ y
 some_inputs x y e = cc
 
 -- what was read
-abbrev inputs_read : Program → List ScriptLine → Given → RunInputs
+abbrev pub inputs_read : Program → List ScriptLine → Given → RunInputs
 inputs_read image lines given = record { image = image; lines = lines; given = given }
 
 -- the comparison of it

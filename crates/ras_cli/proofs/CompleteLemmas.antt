@@ -12,13 +12,14 @@ use Rattle.ras_report.specs.declared.verdicts.Verdict.{Verdict}
 use Rattle.ras_report.specs.declared.verdicts.Verdict.TheVariants as verdicts
 use Rattle.ras_words.specs.Commands.{Command}
 use Rattle.ras_words.specs.Commands as commands
-use Rattle.ras_cli.specs.declared.files.FileKind.TheVariants.{Printed}
+use Rattle.ras_cli.specs.declared.files.FileKind.TheVariants.{Commands, Printed}
 use Rattle.ras_cli.specs.declared.status.Exit.TheVariants as exits
 use Rattle.ras_cli.specs.Files.{limit_of}
 use Rattle.ras_cli.specs.Status.{code_of, IsDone, IsRefusal}
 use Rattle.ras_cli.specs.Refusals.{too_long}
 use Rattle.ras_cli.specs.Plan.{Plan, Done, Refuse, Reading, Planned, line_written, calls_then, carried_out, is_longer, file_plan, inputs_plan, results_plan, results_of, exit_of, settings_of}
 use Rattle.ras_cli.specs.ComparePlan.{ComparisonRequest, verdict_exit, compared, compared_plan, comparison_plan, compare_request}
+use Rattle.ras_cli.specs.DebugPlan.{debugged, debugged_plan}
 use Rattle.ras_cli.specs.DemoPlan.{demo_request}
 use Rattle.ras_cli.specs.PrintPlan.{printed, print_bytes}
 use Rattle.ras_cli.specs.Plans.{command_plan}
@@ -58,7 +59,7 @@ stop_done stops.ConsoleFull = inl refl
 stop_done (stops.Consumed w use_kind pc) = inr (inl refl)
 stop_done (stops.Injected bank rec) = inr (inl refl)
 
-verdict_done : (v : Verdict) → IsDone (code_of (verdict_exit v))
+pub verdict_done : (v : Verdict) → IsDone (code_of (verdict_exit v))
 verdict_done verdicts.Same = inl refl
 verdict_done verdicts.Uncorrected = inr (inl refl)
 verdict_done verdicts.Silent = inr (inr refl)
@@ -81,6 +82,10 @@ command_done (commands.Run run) files results e =
     same_done (results_of run (faulty_run k.x.image (settings_of run.machine) k.x.given k.x.lines)) results k.then
     (stop_done (ending_in (faulty_run k.x.image (settings_of run.machine) k.x.given k.x.lines)).stop)
 command_done (commands.Compare run) files results e = comparison_done (compare_request run) files results e
+command_done (commands.Debug debug) files results e =
+    let k = bound (inputs_plan debug.machine) (debugged_plan debug) files results e in
+    let h = bound (file_plan Commands debug.commands) (λ text. Done (debugged (settings_of debug.machine) k.x text)) files results k.then in
+    same_done (debugged (settings_of debug.machine) k.x h.x) results h.then (inl refl)
 command_done (commands.Read name) files results e =
     let k = bound (file_plan Printed name) print_bytes files results e in print_done (file_text k.x) files results k.then
 command_done (commands.Demo number) files results e = comparison_done (demo_request number) files results e

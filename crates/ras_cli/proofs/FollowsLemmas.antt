@@ -102,10 +102,14 @@ cut_more a b xs ys h = (h.0, more xs h.0 h.1, h.2)
     more (x ∷ xs) done (inl failed) = inl failed
     more (x ∷ xs) done (inr k) = inr (k.0, k.1, more xs k.0 k.2)
 
+-- calls were made, and a later one failed
+pub cut_behind : (a b c : Outside) (xs ys : List HostAction) → Performs a b xs → Cuts b c ys → Cuts a c (xs ++ ys)
+cut_behind a b c xs ys made h = (xs ++ h.0, cut_append xs ys h.0 h.1, performs_append a b c xs h.0 made h.2)
+
 -- the first calls were made, and a later one failed
 pub made_cut : (a b c : Outside) (xs ys : List HostAction) → Made a b xs → Cuts b c ys → Cuts a c (xs ++ ys)
 made_cut a b c [] ys e h = subst (λ (o : Outside). Cuts o c ys) e h
-made_cut a b c (x ∷ xs) ys made h = ((x ∷ xs) ++ h.0, cut_append (x ∷ xs) ys h.0 h.1, performs_append a b c (x ∷ xs) h.0 made h.2)
+made_cut a b c (x ∷ xs) ys made h = cut_behind a b c (x ∷ xs) ys made h
 
 -- the first calls were made, and then the others
 pub made_performs : (a b c : Outside) (xs ys : List HostAction) → Made a b xs → Performs b c ys → Performs a c (xs ++ ys)

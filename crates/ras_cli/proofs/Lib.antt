@@ -10,5 +10,6 @@ pub mod PlanLemmas
 pub mod ReadsLemmas
 pub mod CompleteLemmas
 pub mod ComparisonLemmas
+pub mod DebugLemmas
 pub mod DemoLemmas
 pub mod PrintLemmas

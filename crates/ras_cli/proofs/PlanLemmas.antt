@@ -1,5 +1,5 @@
 -- Plans, one after the other.
-use Rattle.std.proofs.Common.{◌≡◌, ℕ, ◌≤◌, Bool, true, false, cond, List, [], ◌∷◌, ◌++◌, Option, Some, None, refl, sym, ◌∙◌, ap, subst, append_assoc, append-nil}
+use Rattle.std.proofs.Common.{◌≡◌, ℕ, ◌≤◌, Bool, true, false, cond, List, [], ◌∷◌, ◌++◌, Option, Some, None, refl, sym, ◌∙◌, ap, subst, append-nil}
 use Rattle.std.specs.Prelude.{IfSome}
 use Rattle.ras_host.specs.Told.{File, Outside, HostAction, Read, Performs, bytes_of}
 use Rattle.ras_host.specs.ToldLaws.{performs_append}
@@ -37,9 +37,6 @@ bind_reads (Reading file name whole) f files x e = ap (λ (l : List HostAction).
     go true e onward = cc
     go false e onward = onward e
 
-then_then : (xs ys : List HostAction) (p : Planned) → calls_then xs (calls_then ys p) ≡ calls_then (xs ++ ys) p
-then_then xs ys p = ap (λ (l : List HostAction). let q : Planned = record { code = p.code; actions = l } in q) (sym (append_assoc xs ys p.actions))
-
 -- the calls that follow
 pub bind_carried : {X : Type 0} (p : Plan X) (next : X → Plan Planned) (files : List File) (x : X) → value_in p files ≡ Some x
     → calls_then (reads_in p files) (carried_out (next x) files) ≡ carried_out (p >>= next) files
@@ -61,6 +58,20 @@ bind_assoc (Done x) f next files = refl
 bind_assoc (Refuse line) f next files = refl
 bind_assoc (Reading file name whole) f next files =
     ap (λ (q : Planned). calls_then (Read name (limit_of file) ∷ []) (cond (is_longer files file name) (line_written exits.Refused (too_long file)) q)) (bind_assoc (whole (bytes_of files name)) f next files)
+
+-- a value that follows a plan follows one that is a value
+pub record DoneBoth {X Y : Type 0} (p : Plan X) (f : X → Plan Y) (y : Y) : Type 0 where
+  pub x : X
+  pub first : p ≡ Done x
+  pub then : f x ≡ Done y
+
+done_both : {X Y : Type 0} (p : Plan X) (f : X → Plan Y) (y : Y) → (p >>= f) ≡ Done y → DoneBoth p f y
+done_both (Done x) f y e = record { x = x; first = refl; then = e }
+done_both (Refuse line) f y e = absurd cc
+done_both (Reading file name whole) f y e = absurd cc
+
+same_done : {X : Type 0} (x y : X) → Done x ≡ Done y → x ≡ y
+same_done x y e = cc
 
 -- ---- reads that were made
 
@@ -90,7 +101,7 @@ both_told (Some files) after P Q R e p q f = let S : Option (List File) → Type
 
 -- a value, and nothing read
 pub reached_done : {X : Type 0} (a b : Outside) (x : X) → b ≡ a → Reaches (Done x) a b x
-reached_done a b x e = record { reads = []; all = tt; made = e; comes = all_told a.files }
+reached_done a b x e = record { reads = []; all = tt; made = e; comes = all_told a.files; unread = λ y is. (refl, same_done x y is) }
   where
     all_told : (o : Option (List File)) → IfSome o (λ files. ComesTo (Done x) files [] x)
     all_told None = tt
@@ -110,6 +121,11 @@ reached_bind p f a b c x y r s = record {
     made = ap (λ (l : List HostAction). l ++ s.reads) k.made ∙ ap (λ (l : List HostAction). reads_in p files ++ l) h.made ∙ sym (bind_reads p f files x k.value);
     value = bind_value p f files x k.value ∙ h.value;
   });
+  unread = λ z is.
+      let both = done_both p f z is in
+      let first = r.unread both.x both.first in
+      let then = s.unread z (ap f first.1 ∙ both.then) in
+      (ap (λ (l : List HostAction). l ++ s.reads) first.0 ∙ then.0, then.1);
 }
 
 -- a value, and then what is done with it
@@ -130,6 +146,9 @@ follows_bind p f a b c x first faults now code r low s = record {
       let Q : List HostAction → Type 0 = λ l. Follows a c (calls_then l (carried_out (f x >>= next) files)) code in
       subst P (bind_assoc p f next files)
       (subst P (bind_carried p (λ z. f z >>= next) files x k.value) (subst Q k.made (made_follows a b c r.reads _ code r.all r.made (h next)))));
+  valued = λ z is.
+      let both = done_both p f z is in
+      s.valued z (ap f (r.unread both.x both.first).1 ∙ both.then);
 }
 
 -- what a refusal follows
@@ -142,7 +161,12 @@ stops_follow {X} p next a b faults now code s = told a.files s.follows
 
 -- a refusal is one of whatever was to follow
 pub refused_bind : {X Y : Type 0} (p : Plan X) (f : X → Plan Y) (a b : Outside) (faults now code : ℕ) → Stops p a b faults now code → Stops (p >>= f) a b faults now code
-refused_bind {X} {Y} p f a b faults now code s = record { refusal = s.refusal; ends = s.ends; follows = all_told a.files s.follows }
+refused_bind {X} {Y} p f a b faults now code s = record {
+  refusal = s.refusal;
+  ends = s.ends;
+  follows = all_told a.files s.follows;
+  valued = λ z is. let both = done_both p f z is in s.valued both.x both.first;
+}
   where
     all_told : (o : Option (List File)) → IfSome o (λ files. (next : X → Plan Planned) → Follows a b (carried_out (p >>= next) files) code)
         → IfSome o (λ files. (next : Y → Plan Planned) → Follows a b (carried_out ((p >>= f) >>= next) files) code)

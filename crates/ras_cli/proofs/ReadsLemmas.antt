@@ -20,10 +20,20 @@ use Rattle.ras_cli.proofs.FollowsLemmas.{follows_nothing, follows_read, if_some_
 use Rattle.ras_cli.proofs.EndsLemmas.{read_ends, memory_ends}
 use Rattle.ras_cli.proofs.PlanLemmas.{reached_same}
 
+-- a file isn't a value
+never_done : (file : FileKind) (name : Bytes) (y : Bytes) → file_plan file name ≡ Done y → ⊥
+never_done file name y is = cc
+
 -- a file within its limit
 pub whole_read : (file : FileKind) (name : Bytes) (a b : Outside) (bytes : Bytes) → IfSome a.files (λ files. (length (bytes_of files name) ≤ limit_of file) × (bytes ≡ bytes_of files name))
     → Performs a b (Read name (limit_of file) ∷ []) → Reaches (file_plan file name) a b bytes
-whole_read file name a b bytes got h = record { reads = Read name (limit_of file) ∷ []; all = (tt, tt); made = h; comes = told a.files got }
+whole_read file name a b bytes got h = record {
+  reads = Read name (limit_of file) ∷ [];
+  all = (tt, tt);
+  made = h;
+  comes = told a.files got;
+  unread = λ y is. absurd (never_done file name y is);
+}
   where
     told : (o : Option (List File)) → IfSome o (λ files. (length (bytes_of files name) ≤ limit_of file) × (bytes ≡ bytes_of files name))
         → IfSome o (λ files. ComesTo (file_plan file name) files (Read name (limit_of file) ∷ []) bytes)
@@ -44,6 +54,7 @@ longer_stops file name a b c first faults now code got h low f is ends = record 
   refusal = is;
   ends = read_ends a b c name (limit_of file) first faults now code h low ends;
   follows = told a.files got;
+  valued = λ y same. absurd (never_done file name y same);
 }
   where
     told : (o : Option (List File)) → IfSome o (λ files. limit_of file < length (bytes_of files name))
@@ -74,6 +85,7 @@ failed_stops file name a b faults now h later rose = record {
     cause = λ _. rose;
   };
   follows = if_some_all a.files _ (λ files next. failed_follows a b name (limit_of file) _ h);
+  valued = λ y is. absurd (never_done file name y is);
 }
 
 -- want of memory in a read
@@ -82,6 +94,7 @@ unread_stops file name a b faults now h later = record {
   refusal = inr (inr refl);
   ends = memory_ends a b faults now (inr (Read name (limit_of file) ∷ [], (tt, tt), h)) later;
   follows = if_some_all a.files _ (λ files next. follows_read a b b name (limit_of file) _ (code_of exits.NoMemory) h (follows_nothing b _));
+  valued = λ y is. refl;
 }
 
 -- want of memory, and nothing done
@@ -90,7 +103,12 @@ memory_stops p a b faults now e later = record {
   refusal = inr (inr refl);
   ends = memory_ends a b faults now (inl e) later;
   follows = if_some_all a.files _ (λ files next. subst (λ (o : Outside). Follows a o (carried_out (p >>= next) files) (code_of exits.NoMemory)) (sym e) (follows_nothing a _));
+  valued = λ y is. refl;
 }
+
+-- a refusal isn't a value
+never_both : {X : Type 0} (line : Bytes) (y : X) → Refuse line ≡ Done y → ⊥
+never_both line y is = cc
 
 -- a line that refuses
 pub refuse_stops : {X : Type 0} (p : Plan X) (line : Bytes) (a b : Outside) (faults now code : ℕ) → p ≡ Refuse line → Follows a b (line_written exits.Refused line) code → IsRefusal code → RunEnds a b faults now code
@@ -99,6 +117,7 @@ refuse_stops {X} p line a b faults now code e f is ends = record {
   refusal = is;
   ends = ends;
   follows = if_some_all a.files _ (λ files next. subst (λ (q : Plan X). Follows a b (carried_out (q >>= next) files) code) (sym e) f);
+  valued = λ y same. absurd (never_both line y (sym e ∙ same));
 }
 
 -- an image that is refused for another cause than want of memory

@@ -1,4 +1,5 @@
 -- A comparison, as the program holds it.
+use Rattle.std.specs.Prelude.{ℕ, Option, Some, None}
 use Rattle.ras_words.specs.Read.{machine_in, IsInLimits}
 use Rattle.ras_cli.specs.declared.compare.Comparison.{Comparison}
 use Rattle.ras_cli.specs.declared.compare.Compared.{Compared}
@@ -11,6 +12,11 @@ use Rattle.ras_cli.specs.DemoPlan.{demo_request}
 abbrev pub request_in : Compared → ComparisonRequest
 request_in (Files run) = compare_request (machine_in run)
 request_in (Demo number) = demo_request number
+
+-- the number of a demo
+abbrev pub demo_in : Compared → Option ℕ
+demo_in (Files run) = None
+demo_in (Demo number) = Some number
 
 -- the numbers of its options are in their ranges
 abbrev pub AreComparable : Compared → Type 0

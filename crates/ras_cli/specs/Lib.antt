@@ -4,14 +4,17 @@ pub mod Refusals
 pub mod Plan
 pub mod ComparePlan
 pub mod DemoPlan
+pub mod DebugPlan
 pub mod PrintPlan
 pub mod Plans
 pub mod Writes
 pub mod Inputs
 pub mod Follows
+pub mod Behind
 pub mod Reaches
 pub mod Accepted
 pub mod Headline
 pub mod Complete
 pub mod Comparison
+pub mod Demonstrates
 pub mod Both

@@ -107,12 +107,12 @@ accepted_lines (Ok lines) = Done lines
 accepted_lines (Error refusal) = Refuse (script_line refusal)
 
 -- the lines that a text has
-abbrev pub lines_of : MachineRequest → Bytes → Plan (List ScriptLine)
-lines_of run text = accepted_lines (lines_in (run_ram_words run) text)
+abbrev pub script_in : MachineRequest → Bytes → Plan (List ScriptLine)
+script_in run text = accepted_lines (lines_in (run_ram_words run) text)
 
 -- the lines of a run's script
 abbrev pub script_plan : MachineRequest → Plan (List ScriptLine)
-script_plan run = named_plan files.Script run.script >>= lines_of run
+script_plan run = named_plan files.Script run.script >>= script_in run
 
 -- the input of a run
 abbrev pub input_plan : MachineRequest → Plan Bytes

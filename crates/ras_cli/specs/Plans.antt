@@ -1,11 +1,12 @@
 -- The plan of each command.
 use Rattle.std.specs.Prelude.{List, Option, Some, None, option_and_then}
 use Rattle.ras_host.specs.Told.{Bytes, File}
-use Rattle.ras_words.specs.Commands.{Command, Run, Compare, Read, Demo, command_of}
+use Rattle.ras_words.specs.Commands.{Command, Run, Compare, Debug, Read, Demo, command_of}
 use Rattle.ras_cli.specs.declared.status.Exit.TheVariants as exits
 use Rattle.ras_cli.specs.Refusals.{usage}
 use Rattle.ras_cli.specs.Plan.{Plan, Done, Planned, line_written, carried_out, run_plan}
 use Rattle.ras_cli.specs.ComparePlan.{ComparisonRequest, comparison_plan, compare_request}
+use Rattle.ras_cli.specs.DebugPlan.{debug_plan}
 use Rattle.ras_cli.specs.DemoPlan.{demo_request}
 use Rattle.ras_cli.specs.PrintPlan.{print_plan}
 
@@ -13,6 +14,7 @@ use Rattle.ras_cli.specs.PrintPlan.{print_plan}
 abbrev pub command_plan : Command → Plan Planned
 command_plan (Run run) = run_plan run
 command_plan (Compare run) = comparison_plan (compare_request run)
+command_plan (Debug debug) = debug_plan debug
 command_plan (Read file) = print_plan file
 command_plan (Demo number) = comparison_plan (demo_request number)
 

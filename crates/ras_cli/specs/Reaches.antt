@@ -4,9 +4,10 @@ use Rattle.elf_load.specs.Program.{Program}
 use Rattle.fault_script.specs.Steps.{InRisingSteps}
 use Rattle.fault_script.specs.declared.lines.ScriptLine.{ScriptLine}
 use Rattle.ras_machine.specs.Schedule.{Given}
-use Rattle.ras_host.specs.Told.{Bytes, Outside, HostAction, Performs, Read, File, bytes_of}
+use Rattle.ras_host.specs.Told.{Outside, HostAction, Performs, Read, File, bytes_of}
 use Rattle.ras_cli.specs.Files.{limit_of}
-use Rattle.ras_cli.specs.Status.{IsRefusal}
+use Rattle.ras_cli.specs.declared.status.Exit.TheVariants.{NoMemory}
+use Rattle.ras_cli.specs.Status.{code_of, IsRefusal}
 use Rattle.ras_cli.specs.Plan.{Plan, Done, Refuse, Reading, Planned, RunInputs, carried_out, is_longer, ◌>>=◌}
 use Rattle.ras_cli.specs.Follows.{Follows, AreReads, RunEnds}
 
@@ -32,18 +33,22 @@ abbrev pub Made : Outside → Outside → List HostAction → Type 0
 Made before after [] = after ≡ before
 Made before after (action ∷ actions) = Performs before after (action ∷ actions)
 
--- Reads were made, and nothing else was done. Where the files are told, they are the plan's, and the plan comes to x.
+-- Reads were made, and nothing else was done. Where the files are told, they are the plan's, and the plan comes to x; a plan that is a value
+-- reads nothing and comes to it over any host.
 pub record Reaches {X : Type 0} (plan : Plan X) (before after : Outside) (x : X) : Type 0 where
   pub reads : List HostAction
   pub all : AreReads reads
   pub made : Made before after reads
   pub comes : IfSome before.files (λ files. ComesTo plan files reads x)
+  pub unread : (y : X) → plan ≡ Done y → (reads ≡ []) × (x ≡ y)
 
--- How a plan ended that came to no value, with the host's faults before and now: whatever was to follow it.
+-- How a plan ended that came to no value, with the host's faults before and now: whatever was to follow it. A plan that reads and refuses nothing
+-- ended so only for want of memory.
 pub record Stops {X : Type 0} (plan : Plan X) (before after : Outside) (faults now code : ℕ) : Type 0 where
   pub refusal : IsRefusal code
   pub ends : RunEnds before after faults now code
   pub follows : IfSome before.files (λ files. (next : X → Plan Planned) → Follows before after (carried_out (plan >>= next) files) code)
+  pub valued : (y : X) → plan ≡ Done y → code ≡ code_of NoMemory
 
 -- a script was read: its lines, in rising steps
 pub record ReachesScript (plan : Plan (List ScriptLine)) (before after : Outside) (script : List ScriptLine) : Type 0 where

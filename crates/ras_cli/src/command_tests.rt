@@ -1,4 +1,4 @@
-//! The commands `read` and `demo` over a host in memory, with texts worked out by hand.
+//! The commands `debug`, `read` and `demo` over a host in memory, with texts worked out by hand.
 
 use crate::helpers::{called, host_of, image_of};
 use ras_bits::NoMemory;
@@ -45,6 +45,27 @@ fn host_of_records(alloc: Global) -> Result<MemoryHost, NoMemory> {
     host.add_file("cut", front(alloc, records, 100)?.as_slice())?;
     host.add_file("tables", run.created("t").unwrap_or(&[]))?;
     Ok(host)
+}
+
+#[test]
+fn answers_the_lines_of_a_file(rt: HostRuntime) -> Result<(), Fail> {
+    let shown =
+        "at 2 pc 0x0000000080000008\nregs pc=0x0000000080000008 x10=0x0000000000000048 x17=0x0000000000000001\n";
+    for (commands, out) in [
+        ("step 2\nregs\nquit\n", shown),
+        ("step 2\nregs", shown),
+        ("step 2\n\nregs\nquit\nregs\n", shown),
+        ("quit\nregs\n", ""),
+        ("", ""),
+    ] {
+        let mut host = host_of(rt.alloc(), &[("c", commands.as_bytes())])?;
+        host.add_file("hello", image_of(rt.alloc(), &HELLO)?.as_slice())?;
+        let code = called(rt.alloc(), "debug hello c --raw --ram-mib 1", &mut host)?;
+        assert_eq!(rt; code, 0, "{commands}");
+        assert!(rt; host.written_out() == out.as_bytes(), "{commands}");
+        assert!(rt; host.written_err() == b"".as_slice(), "{commands}");
+    }
+    Ok(())
 }
 
 #[test]

@@ -11,8 +11,9 @@ ghost use Rattle.ras_machine.specs.Machine.{faulty_run, ending_in};
 ghost use Rattle.ras_machine.specs.Settings.{IsInRange, ram_words};
 ghost use Rattle.ras_machine.specs.Ways.{EndsBy, KeepsToFlat};
 ghost use Rattle.ras_cli.specs.Inputs.{given_in};
-ghost use Rattle.ras_cli.specs.Both.{planned_in, request_in, AreComparable};
+ghost use Rattle.ras_cli.specs.Both.{demo_in, planned_in, request_in, AreComparable};
 ghost use Rattle.ras_cli.specs.Comparison.{ComparisonEnds};
+ghost use Rattle.ras_cli.specs.Demonstrates.{Demonstrates};
 ghost use Rattle.ras_cli.specs.declared.status.Exit.TheVariants as exits;
 ghost use Rattle.ras_cli.specs.Status.{code_of, IsDone};
 ghost use Rattle.ras_cli.specs.Plan.{carried_out};
@@ -25,11 +26,10 @@ use crate::inputs::{Inputs, read_inputs};
 use crate::settings::settings_of;
 use crate::status::{Exit, Status};
 use crate::writes::end_written;
-use arrayvec::ArrayVec;
 use ras_bits::NoMemory;
 use ras_host::{Host, HostFault};
 use ras_machine::{Flat, Machine, Settings};
-use ras_report::{Verdict, flat_report, report, verdict, verdict_line};
+use ras_report::{Report, Verdict, flat_report, report, verdict, verdict_line};
 use ras_words::MachineWords;
 use std::alloc::Global;
 
@@ -37,8 +37,8 @@ use std::alloc::Global;
 #[derive(Drop)]
 pub struct Comparison {
     pub machine: Machine,
-    pub report: ArrayVec<u8, 4096>,
-    pub flat_report: ArrayVec<u8, 4096>,
+    pub report: Report,
+    pub flat_report: Report,
     pub verdict: Verdict,
 }
 
@@ -76,8 +76,8 @@ fn run_both(alloc: Global, inputs: &Inputs, settings: &Settings) -> Result<Compa
 {
     let mut machine = Machine::make(alloc, &inputs.image, settings)?;
     let mut flat = Flat::make(alloc, &inputs.image, settings.budget, settings.harts)?;
-    let mut text = ArrayVec::<u8, 4096>::new();
-    let mut flat_text = ArrayVec::<u8, 4096>::new();
+    let mut text = Report::new();
+    let mut flat_text = Report::new();
     let input = inputs.input.as_slice();
     let schedule = inputs.schedule.as_slice();
     let ending = machine.run(input, schedule, &inputs.script);
@@ -218,6 +218,8 @@ pub fn compare_command<H: Host>(alloc: Global, what: Compared<'_>, host: &mut H)
     ensures comparison { IfSome (H.told host.old).files
         (λ files. ComparisonEnds files (request_in what.entry) (H.told host.old) (H.told host.new)
         result.code) }
+    ensures demo { IfSome (demo_in what.entry)
+        (λ number. Demonstrates number (H.told host.old) (H.told host.new) result.code) }
     ensures ends { RunEnds (H.told host.old) (H.told host.new) (H.faults host.old)
         (H.faults host.new) result.code }
 {

@@ -3,7 +3,9 @@
 ghost use Rattle.std.specs.Prelude.{◌≡◌, ◌≤◌, length};
 ghost use Rattle.ras_cli.specs.Files.{limit_of, word_of};
 
-use ras_words::{IMAGE_LIMIT, INPUT_LIMIT, PRINTED_LIMIT, SCHEDULE_LIMIT, SCRIPT_LIMIT};
+use ras_words::{
+    COMMANDS_LIMIT, IMAGE_LIMIT, INPUT_LIMIT, PRINTED_LIMIT, SCHEDULE_LIMIT, SCRIPT_LIMIT,
+};
 
 /// A file that a command reads.
 #[derive(Clone, Copy)]
@@ -12,6 +14,8 @@ pub enum FileKind {
     Script,
     Input,
     Schedule,
+    /// The commands of the debugger.
+    Commands,
     /// The file whose text `read` prints.
     Printed,
 }
@@ -26,6 +30,7 @@ impl FileKind {
             FileKind::Script => SCRIPT_LIMIT,
             FileKind::Input => INPUT_LIMIT,
             FileKind::Schedule => SCHEDULE_LIMIT,
+            FileKind::Commands => COMMANDS_LIMIT,
             FileKind::Printed => PRINTED_LIMIT,
         }
     }
@@ -40,6 +45,7 @@ impl FileKind {
             FileKind::Script => b"script",
             FileKind::Input => b"input",
             FileKind::Schedule => b"schedule",
+            FileKind::Commands => b"commands",
             FileKind::Printed => b"file",
         }
     }

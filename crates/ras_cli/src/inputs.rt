@@ -9,7 +9,7 @@ ghost use Rattle.ras_words.specs.Read.{machine_in, IsInLimits};
 ghost use Rattle.ras_cli.specs.Inputs.{given_in};
 ghost use Rattle.ras_cli.specs.Files.{limit_of};
 ghost use Rattle.ras_cli.specs.Plan.{accepted_image, run_ram_words, file_plan, named_plan, image_in, image_plan};
-ghost use Rattle.ras_cli.specs.Plan.{inputs_plan, lines_of, script_plan};
+ghost use Rattle.ras_cli.specs.Plan.{inputs_plan, script_in, script_plan};
 ghost use Rattle.ras_cli.specs.Reaches.{Reaches, ReachesInputs, ReachesScript, Stops};
 
 use crate::files::FileKind;
@@ -158,12 +158,12 @@ pub fn accept_script<H: Host>(
     requires limits { IsInLimits run }
     requires text { length text.now < 2 ^ 32 }
     ensures reached { IfOk result (λ script.
-        ReachesScript (lines_of (machine_in run.entry) text.now) (H.told host.old)
+        ReachesScript (script_in (machine_in run.entry) text.now) (H.told host.old)
         (H.told host.new) script.lines) }
     ensures script { IfOk result
         (λ script. IsScriptFor (run_ram_words (machine_in run.entry)) script.lines) }
     ensures stopped { IfErr result (λ status.
-        Stops (lines_of (machine_in run.entry) text.now) (H.told host.old) (H.told host.new)
+        Stops (script_in (machine_in run.entry) text.now) (H.told host.old) (H.told host.new)
         (H.faults host.old) (H.faults host.new) status.code) }
     ensures later { H.faults host.old ≤ H.faults host.new }
 {

@@ -15,10 +15,9 @@ ghost use Rattle.ras_cli.specs.Plan.{exit_of};
 
 use crate::inputs::Inputs;
 use crate::status::Exit;
-use arrayvec::ArrayVec;
 use ras_bits::NoMemory;
 use ras_machine::{Machine, Settings, Stop};
-use ras_report::report;
+use ras_report::{Report, report};
 use std::alloc::Global;
 
 /// What a run leaves: the machine with its console, records and firmware's memory, how the program
@@ -27,7 +26,7 @@ use std::alloc::Global;
 pub struct Results {
     pub machine: Machine,
     pub exit: Exit,
-    pub report: ArrayVec<u8, 4096>,
+    pub report: Report,
 }
 
 // How the program ends where a run stopped so.
@@ -72,7 +71,7 @@ pub fn run_machine(alloc: Global, inputs: &Inputs, settings: &Settings) -> Resul
         (flat_of inputs.now.image settings.now) lines (ending_in faulty) faulty.state)) }
 {
     let mut machine = Machine::make(alloc, &inputs.image, settings)?;
-    let mut text = ArrayVec::<u8, 4096>::new();
+    let mut text = Report::new();
     let ending = machine.run(
         inputs.input.as_slice(),
         inputs.schedule.as_slice(),

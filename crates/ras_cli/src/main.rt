@@ -1,5 +1,6 @@
-//! The program `ras`: an image is run under a script of faults, by itself or beside the flat machine,
-//! and its console, its error records, reports and a verdict are written; or records are printed.
+//! The program `ras`: an image is run under a script of faults, by itself or beside the flat
+//! machine, and its console, its error records, reports and a verdict are written; or a debugger's
+//! session over the run is; or records are printed.
 //!
 //! `main` takes the words of the command line and makes the host. All else is `ras_main`.
 #![tactic(auto)]
@@ -7,6 +8,7 @@
 #[cfg(test)]
 mod command_tests;
 mod compare;
+mod debugging;
 mod demo;
 #[cfg(test)]
 mod file_tests;

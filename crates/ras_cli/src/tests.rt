@@ -331,6 +331,11 @@ fn refuses_long_files(rt: HostRuntime) -> Result<(), Fail> {
             "ras: input too long: limit 16777216\n",
         ),
         (
+            "debug hello long --raw --ram-mib 1",
+            1_048_577,
+            "ras: commands too long: limit 1048576\n",
+        ),
+        (
             "run hello --raw --script long --ram-mib 1",
             4_194_305,
             "ras: script too long: limit 4194304\n",
@@ -355,6 +360,10 @@ fn names_the_limits_of_files(rt: HostRuntime) {
         (
             FileKind::Schedule,
             "ras: schedule too long: limit 16777216\n",
+        ),
+        (
+            FileKind::Commands,
+            "ras: commands too long: limit 1048576\n",
         ),
         (FileKind::Printed, "ras: file too long: limit 16777216\n"),
     ] {

@@ -22,8 +22,10 @@ ghost use Rattle.ras_cli.specs.Follows.{Follows, MakesFront, OnlyReads, WritesLi
 ghost use Rattle.ras_cli.specs.Complete.{Completes};
 ghost use Rattle.ras_cli.specs.Headline.{Headline};
 ghost use Rattle.ras_cli.specs.Comparison.{ComparisonEnds};
+ghost use Rattle.ras_cli.specs.Demonstrates.{asked_demo, demo_of, Demonstrates};
 
 use crate::compare::{Compared, compare_command};
+use crate::debugging::debug_command;
 use crate::inputs::{Inputs, read_inputs};
 use crate::machine::run_machine;
 use crate::printing::print_command;
@@ -110,12 +112,15 @@ fn carry_out<H: Host>(alloc: Global, command: Command<'_>, host: &mut H) -> Stat
         (λ files. IfSome (asked_comparison (command_in command.entry))
         (λ request. ComparisonEnds files request (H.told host.old) (H.told host.new)
         result.code)) }
+    ensures demo { IfSome (asked_demo (command_in command.entry))
+        (λ number. Demonstrates number (H.told host.old) (H.told host.new) result.code) }
     ensures ends { RunEnds (H.told host.old) (H.told host.new) (H.faults host.old)
         (H.faults host.new) result.code }
 {
     match command {
         Command::Run(run) => run_command(alloc, run, host),
         Command::Compare(run) => compare_command(alloc, Compared::Files(run), host),
+        Command::Debug(debug) => debug_command(alloc, debug, host),
         Command::Read(file) => print_command(alloc, file, host),
         Command::Demo(number) => compare_command(alloc, Compared::Demo(number), host),
     }
@@ -124,14 +129,18 @@ fn carry_out<H: Host>(alloc: Global, command: Command<'_>, host: &mut H) -> Stat
 /// Runs the program on the words after its name, over a host. The first word is the command.
 ///
 /// - `run IMAGE` reads the image, the script, the input and the schedule in this order; without
-///   `--script`, `--input` or `--schedule` that one is empty. It runs the image, and then writes the
-///   console to standard output, the file of its error records, that of firmware's memory, and its
-///   report to standard error. A file is made only where an option names it; where both options name
-///   one file, the later one stands.
-/// - `compare IMAGE` reads the same and runs the flat machine beside. It writes the console of the run
-///   to standard output, and to standard error its report, that of the flat machine and the verdict.
-/// - `demo NUMBER` is `compare --raw` with the image and the script of the workload of that number and
-///   the default of each option. It reads nothing.
+///   `--script`, `--input` or `--schedule` that one is empty. It runs the image, and then writes
+///   the console to standard output, the file of its error records, that of firmware's memory, and
+///   its report to standard error. A file is made only where an option names it; where both options
+///   name one file, the later one stands.
+/// - `compare IMAGE` reads the same and runs the flat machine beside. It writes the console of the
+///   run to standard output, and to standard error its report, that of the flat machine and the
+///   verdict.
+/// - `debug IMAGE COMMANDS` reads the same as `run` and then the commands. It makes a debugger's
+///   session over the machine, and writes the reply to each line of the commands to standard
+///   output, up to the empty one to `quit` or to their end.
+/// - `demo NUMBER` is `compare --raw` with the image and the script of the workload of that number
+///   and the default of each option. It reads nothing.
 /// - `read FILE` writes the text of a file of error records, or of firmware's memory, to standard
 ///   output.
 ///
@@ -139,7 +148,7 @@ fn carry_out<H: Host>(alloc: Global, command: Command<'_>, host: &mut H) -> Stat
 ///
 /// | status | when |
 /// |---|---|
-/// | 0 | all was written: of `run` the run stopped at no error, of `compare` and `demo` besides the verdict is `same`, of `read` the file is printed |
+/// | 0 | all was written: of `run` the run stopped at no error, of `compare` and `demo` besides the verdict is `same`, of `debug` each line up to `quit` was answered, of `read` the file is printed |
 /// | 1 | the words are not of this form, and the usage line was written |
 /// | 2 | a file is longer than its limit, or the image, the script or the file of `read` is refused, and a line that says so was written |
 /// | 3 | a call of the host failed; after it nothing is written |
@@ -148,7 +157,7 @@ fn carry_out<H: Host>(alloc: Global, command: Command<'_>, host: &mut H) -> Stat
 /// | 6 | the verdict of `compare` or `demo` is `silent`: the run stopped at no error, and its console, its stop, its steps, its harts or the place in the input are not those of the flat machine; all was written |
 ///
 /// The limits of files are those of `ras_words`: `IMAGE_LIMIT`, `SCRIPT_LIMIT`, `INPUT_LIMIT`,
-/// `SCHEDULE_LIMIT` and `PRINTED_LIMIT` bytes.
+/// `SCHEDULE_LIMIT`, `COMMANDS_LIMIT` and `PRINTED_LIMIT` bytes.
 pub fn ras_main<H: Host>(alloc: Global, words: &[String], host: &mut H) -> Status
     ensures codes { result.code ≤ code_of Silent }
 
@@ -184,6 +193,11 @@ pub fn ras_main<H: Host>(alloc: Global, words: &[String], host: &mut H) -> Statu
         (λ files. IfSome (comparison_of (texts_of words.now))
         (λ request. ComparisonEnds files request (H.told host.old) (H.told host.new)
         result.code)) }
+
+    // Over any host, the image and the script of the demo of any number are accepted: its outputs
+    // are whole, and it ends as a comparison.
+    ensures demo { IfSome (demo_of (texts_of words.now))
+        (λ number. Demonstrates number (H.told host.old) (H.told host.new) result.code) }
 
     // Refused words or a refused file: one line was written, to standard error.
     ensures line { (result.code ≡ code_of Usage) ⊎ (result.code ≡ code_of Refused)

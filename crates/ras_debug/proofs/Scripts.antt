@@ -15,8 +15,7 @@ use Rattle.ras_debug.specs.declared.commands.Why.{Why}
 use Rattle.ras_debug.specs.declared.commands.Why.TheVariants as why
 use Rattle.ras_debug.specs.declared.requests.Request.{Request}
 use Rattle.ras_debug.specs.declared.requests.Request.TheVariants as request
-use Rattle.ras_debug.specs.declared.session.Turn.{Turn}
-use Rattle.ras_debug.specs.declared.session.Turn.TheVariants as turn
+use Rattle.ras_debug.specs.declared.session.TheConstants.{MOST_BREAKPOINTS}
 use Rattle.ras_debug.specs.Requests.{request_of}
 use Rattle.ras_debug.specs.Running.{RunState, stepped, advanced, is_among, is_held, held_within, run_on}
 use Rattle.ras_debug.specs.Session.{SessionState, session_of, replied, refused, gone_on, requested, done_by, answered, turn_at, unless_quit, replies}
@@ -78,7 +77,7 @@ requested_same read script same request.Nothing s = refl
 requested_same read script same (request.Step n) s = ap (λ (r : RunState). gone_on (codes "at ") r (session_under script s)) (advanced_same read script same n s.run)
 requested_same read script same request.Run s = ap (λ (r : RunState). gone_on (codes "break at ") r (session_under script s)) (run_same read script same s.breakpoints s.run)
 requested_same read script same (request.Break address) s =
-    break_same read script (is_among s.breakpoints address) (length s.breakpoints == 16) address (codes "break " ++ address_text address ++ codes " set\n") s
+    break_same read script (is_among s.breakpoints address) (length s.breakpoints == MOST_BREAKPOINTS) address (codes "break " ++ address_text address ++ codes " set\n") s
 requested_same read script same request.Regs s = refl
 requested_same read script same (request.Mem w n) s = refl
 requested_same read script same request.Poison s = refl

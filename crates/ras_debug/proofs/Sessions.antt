@@ -1,9 +1,8 @@
 -- A session whose reply was emptied before a line.
 use Rattle.std.proofs.Common.{◌≡◌, ℕ, List, [], refl, ap}
-use Rattle.ras_debug.specs.declared.commands.Why.{Why}
 use Rattle.ras_debug.specs.declared.requests.Request.{Request}
 use Rattle.ras_debug.specs.declared.requests.Request.TheVariants as request
-use Rattle.ras_debug.specs.Session.{SessionState, replied, refused, requested}
+use Rattle.ras_debug.specs.Session.{SessionState, replied, requested}
 
 -- what is asked for doesn't depend on the last reply
 pub emptied : (asked : Request) (s : SessionState) → requested asked (replied [] s) ≡ requested asked s

@@ -1,5 +1,5 @@
 -- Steps, one after the other.
-use Rattle.std.proofs.Common.{◌≡◌, ℕ, zero, suc, ◌+◌, ◌-◌, ◌∙◌, Bool, true, false, List, Option, Some, None, refl, sym, ap, add-one, arith}
+use Rattle.std.proofs.Common.{◌≡◌, ℕ, zero, suc, ◌+◌, ◌∙◌, true, false, List, Option, Some, None, refl, ap, add-one}
 use Rattle.ras_machine.specs.declared.ending.Ending.{Ending}
 use Rattle.ras_machine.specs.Acted.{Acted}
 use Rattle.ras_machine.specs.Runs.{unless_ended, iterated}

@@ -11,6 +11,7 @@ use Rattle.ras_debug.specs.declared.commands.Why.{Why}
 use Rattle.ras_debug.specs.declared.commands.Why.TheVariants as why
 use Rattle.ras_debug.specs.declared.requests.Request.{Request}
 use Rattle.ras_debug.specs.declared.requests.Request.TheVariants as request
+use Rattle.ras_debug.specs.declared.session.TheConstants.{MOST_BREAKPOINTS}
 use Rattle.ras_debug.specs.declared.session.Turn.{Turn}
 use Rattle.ras_debug.specs.declared.session.Turn.TheVariants as turn
 use Rattle.ras_debug.specs.Commands.{why_text}
@@ -40,12 +41,12 @@ refused refusal s = replied (codes "refused: " ++ why_text refusal ++ codes "\n"
 abbrev pub gone_on : List ℕ → RunState → SessionState → SessionState
 gone_on lead run s = record s { run = run; reply = standing_of lead run }
 
--- a breakpoint is set; there are at most 16 of them, and one that is set is set again without a change
+-- a breakpoint is set; there are at most MOST_BREAKPOINTS of them, and one that is set is set again without a change
 abbrev pub breakpoint_set : ℕ → SessionState → SessionState
 breakpoint_set address s =
     let text = codes "break " ++ address_text address ++ codes " set\n" in
     if is_among s.breakpoints address then replied text s
-    else if length s.breakpoints == 16 then refused why.Full s
+    else if length s.breakpoints == MOST_BREAKPOINTS then refused why.Full s
     else record s { breakpoints = s.breakpoints ++ address ∷ []; reply = text }
 
 -- what a request does

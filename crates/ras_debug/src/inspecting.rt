@@ -66,7 +66,8 @@ fn is_poison(m: &Machine, w: u32) -> bool
     matches!(m.view(w), Cell::Poison)
 }
 
-// Appends a poisoned word where fewer than 256 stand before it, and answers how many there then are.
+// Appends a poisoned word where fewer than 256 stand before it, and answers how many there then
+// are.
 fn push_if_poisoned(reply: &mut Reply, m: &Machine, w: u32, count: u32) -> u32
     requires there { w < ram_words m.now.settings }
     requires counted { count ≡ poison_count m.now w }

@@ -6,9 +6,11 @@
 mod commands;
 mod fields;
 mod inspecting;
+mod laws;
 mod reply;
 mod requests;
 mod running;
 mod session;
 
+pub use laws::sessions_see_lines_by_steps;
 pub use session::{Session, Turn};

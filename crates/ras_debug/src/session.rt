@@ -17,7 +17,7 @@ use arrayvec::ArrayVec;
 use fault_script::Script;
 use ras_bits::NoMemory;
 use ras_machine::Machine;
-use ras_report::registers;
+use ras_report::{Report, registers};
 use std::alloc::Global;
 use std::marker::Model;
 
@@ -51,13 +51,13 @@ pub enum Turn {
 /// | `quit` | nothing, and the session ends |
 ///
 /// S is the number of completed steps, P the pc of the hart that makes the next one, and STOP the
-/// text of [`ras_report::stop_text`]. A machine that has ended stays as it is: `step` and `run` answer
-/// its stop again. A, P and V are printed as `0x` and 16 hexadecimal digits, S, K and R in decimal;
-/// each line of a reply ends with a line feed. In lines, numbers are decimal digits, or `0x` and
-/// hexadecimal digits.
+/// text of [`ras_report::stop_text`]. A machine that has ended stays as it is: `step` and `run`
+/// answer its stop again. A, P and V are printed as `0x` and 16 hexadecimal digits, S, K and R in
+/// decimal; each line of a reply ends with a line feed. In lines, numbers are decimal digits, or
+/// `0x` and hexadecimal digits.
 ///
-/// A line that is refused has the reply `refused: WHY`, with the first of these causes, where fields
-/// are tested from left to right, and changes nothing else.
+/// A line that is refused has the reply `refused: WHY`, with the first of these causes, where
+/// fields are tested from left to right, and changes nothing else.
 ///
 /// | WHY | cause |
 /// |---|---|
@@ -184,7 +184,7 @@ impl Session {
         requires { self.old.reply ≡ [] }
         ensures { self.new ≡ requested requests.Regs self.old }
     {
-        let mut text = ArrayVec::<u8, 4096>::new();
+        let mut text = Report::new();
         registers(self.running.machine(), &mut text);
         self.reply.push(text.as_slice());
     }

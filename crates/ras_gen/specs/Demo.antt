@@ -36,10 +36,19 @@ abbrev pub flip_text : ℕ → ℕ → ℕ → List ℕ
 flip_text step w bit =
     codes "flip " ++ decimal step ++ codes " " ++ address_text (word_address w) ++ codes " " ++ decimal bit ++ codes "\n"
 
--- line k, counted from 0: its step, word and bit are three draws in a row
+-- the step, the word and the bit of flip k, counted from 0: three draws in a row
+abbrev pub flip_step : ℕ → ℕ → ℕ
+flip_step seed k = drawn seed (3 * k) % STEPS
+
+abbrev pub flip_word : ℕ → ℕ → ℕ
+flip_word seed k = FIRST_WORD + drawn seed (3 * k + 1) % WORDS
+
+abbrev pub flip_bit : ℕ → ℕ → ℕ
+flip_bit seed k = drawn seed (3 * k + 2) % BITS
+
+-- line k
 unfoldable pub demo_line : ℕ → ℕ → List ℕ
-demo_line seed k =
-    flip_text (drawn seed (3 * k) % STEPS) (FIRST_WORD + drawn seed (3 * k + 1) % WORDS) (drawn seed (3 * k + 2) % BITS)
+demo_line seed k = flip_text (flip_step seed k) (flip_word seed k) (flip_bit seed k)
 
 -- the first lines
 unfoldable pub demo_lines : ℕ → ℕ → List ℕ

@@ -3,13 +3,14 @@ use Rattle.std.specs.Prelude.{ℕ, List, [], ◌∷◌, cond, Option, Some, None
 use Rattle.std.specs.Str.{bytes_eq}
 use Rattle.ras_numbers.specs.Numbers.{number_of}
 use Rattle.clap_words.specs.Reading.{WordText, Given, given_by, value_of}
-use Rattle.ras_words.specs.Run.{MachineRequest, RunRequest, run_after, compare_after}
+use Rattle.ras_words.specs.Run.{MachineRequest, RunRequest, DebugRequest, run_after, compare_after, debug_after}
 use Rattle.ras_words.specs.Tables as rows
 
 -- what a command line asks for
 pub data Command : Type 0 where
   Run : RunRequest → Command
   Compare : MachineRequest → Command
+  Debug : DebugRequest → Command
   Read : (file : WordText) → Command
   Demo : (number : ℕ) → Command
 
@@ -31,8 +32,9 @@ command_of [] = None
 command_of (name ∷ words) =
     cond (bytes_eq name (codes "run")) (option_map Run (run_after words))
     (cond (bytes_eq name (codes "compare")) (option_map Compare (compare_after words))
+    (cond (bytes_eq name (codes "debug")) (option_map Debug (debug_after words))
     (cond (bytes_eq name (codes "read")) (option_map Read (read_after words))
-    (cond (bytes_eq name (codes "demo")) (option_map Demo (demo_after words)) None)))
+    (cond (bytes_eq name (codes "demo")) (option_map Demo (demo_after words)) None))))
 
 -- the run that a command asks for
 abbrev pub asked_run : Command → Option RunRequest

@@ -23,6 +23,11 @@ pub record RunRequest : Type 0 where
   pub records : Option WordText
   pub tables : Option WordText
 
+-- what `debug` asks for: a run of the machine, and the file of the debugger's commands
+pub record DebugRequest : Type 0 where
+  pub machine : MachineRequest
+  pub commands : WordText
+
 -- the number of an option
 abbrev pub number_in : Opt → Given → Option ℕ
 number_in o given = number_of_kind o.kind (value_of o.name given)
@@ -75,3 +80,15 @@ run_after words = option_and_then run_given (given_by rows.run_options rows.run_
 -- the run of the machine that the words after `compare` ask for; none where they are refused
 abbrev pub compare_after : List WordText → Option MachineRequest
 compare_after words = option_and_then machine_given (given_by rows.compare_options rows.compare_plain words)
+
+-- with a file of commands
+abbrev pub debug_with : MachineRequest → WordText → DebugRequest
+debug_with machine commands = record { machine = machine; commands = commands }
+
+-- the session that an image, a file of commands and options ask for
+abbrev pub debug_given : Given → Option DebugRequest
+debug_given given = option_and_then (λ machine. option_map (debug_with machine) (value_of rows.commands given)) (machine_given given)
+
+-- the session that the words after `debug` ask for; none where they are refused
+abbrev pub debug_after : List WordText → Option DebugRequest
+debug_after words = option_and_then debug_given (given_by rows.debug_options rows.debug_plain words)

@@ -52,6 +52,10 @@ tables = record { name = codes "tables"; kind = Text }
 abbrev pub image : WordText
 image = codes "image"
 
+-- the file of the debugger's commands, a plain word
+abbrev pub commands : WordText
+commands = codes "commands"
+
 -- the file that is printed, a plain word
 abbrev pub file : WordText
 file = codes "file"
@@ -75,6 +79,14 @@ compare_options = raw ∷ script ∷ input ∷ budget ∷ ram_mib ∷ poll ∷ p
 -- the plain words of `compare`
 abbrev pub compare_plain : List WordText
 compare_plain = image ∷ []
+
+-- the options of `debug`
+abbrev pub debug_options : List Opt
+debug_options = compare_options
+
+-- the plain words of `debug`
+abbrev pub debug_plain : List WordText
+debug_plain = image ∷ commands ∷ []
 
 -- the plain words of `read`, which has no options
 abbrev pub read_plain : List WordText

@@ -4,12 +4,13 @@ ghost use Rattle.std.specs.Prelude.{◌≡◌, ◌≢◌, ◌≤◌, IfOk, IfSom
 ghost use Rattle.clap_words.specs.Table.{texts_of};
 ghost use Rattle.ras_bits.specs.declared.map.TheConstants.{LAST_STEP};
 ghost use Rattle.ras_words.specs.Run.{poll_in, machine_given, run_given, run_after, compare_after};
+ghost use Rattle.ras_words.specs.Run.{debug_given, debug_after};
 ghost use Rattle.ras_words.specs.Commands.{command_of, demo_after, plain_number, read_after};
-ghost use Rattle.ras_words.specs.Read.{command_in, machine_in, run_in, AreInLimits, IsInLimits};
+ghost use Rattle.ras_words.specs.Read.{command_in, debug_in, machine_in, run_in, AreInLimits, IsInLimits};
 
 use crate::tables::{
-    BUDGET, COMPARE, DEMO, FILE, HARTS, IMAGE, INPUT, NUMBER, PATROL, POLL, RAM_MIB, RAW, READ,
-    RECORDS, RUN, SCHEDULE, SCRIPT, TABLES,
+    BUDGET, COMMANDS, COMPARE, DEBUG, DEMO, FILE, HARTS, IMAGE, INPUT, NUMBER, PATROL, POLL,
+    RAM_MIB, RAW, READ, RECORDS, RUN, SCHEDULE, SCRIPT, TABLES,
 };
 use clap_words::{Given, WordsError, read_given};
 use ras_numbers::number;
@@ -51,6 +52,15 @@ pub struct RunWords<'a> {
     pub tables: Option<&'a str>,
 }
 
+/// What `debug` asks for.
+#[derive(Clone, Copy, Debug, PartialEq)]
+pub struct DebugWords<'a> {
+    /// What is run.
+    pub machine: MachineWords<'a>,
+    /// The name of the file of the debugger's commands.
+    pub commands: &'a str,
+}
+
 /// What a command line asks for.
 #[derive(Clone, Copy, Debug, PartialEq)]
 pub enum Command<'a> {
@@ -58,6 +68,8 @@ pub enum Command<'a> {
     Run(RunWords<'a>),
     /// `compare`: a run of an image beside that of the flat machine.
     Compare(MachineWords<'a>),
+    /// `debug`: a debugger's session over the run of an image.
+    Debug(DebugWords<'a>),
     /// `read`: the text of a file of error records or of firmware's memory, by the file's name.
     Read(&'a str),
     /// `demo`: the comparison of the demo workload of a number.
@@ -112,6 +124,16 @@ fn run_in<'a>(given: &Given<'a>) -> Option<RunWords<'a>>
     })
 }
 
+// The session that was given.
+fn debug_in<'a>(given: &Given<'a>) -> Option<DebugWords<'a>>
+    ensures debug { option_map debug_in result ≡ debug_given given.now }
+    ensures limits { IfSome result (λ debug. IsInLimits debug.machine) }
+{
+    let machine = machine_in(given)?;
+    let commands = given.value_of(COMMANDS)?;
+    Some(DebugWords { machine, commands })
+}
+
 // The number that was given as a plain word.
 fn plain_number(given: &Given<'_>) -> Option<u64>
     ensures { result ≡ plain_number given.now }
@@ -122,9 +144,11 @@ fn plain_number(given: &Given<'_>) -> Option<u64>
 
 // The run that the words after `run` ask for.
 fn run_after<'a>(alloc: Global, words: &'a [String]) -> Result<RunWords<'a>, WordsError>
-    ensures taken { IfOk result (λ run. run_after (texts_of words.entry.now) ≡ Some (run_in run)) }
+    ensures taken { IfOk result
+        (λ run. run_after (texts_of words.entry.now) ≡ Some (run_in run)) }
     ensures limits { IfOk result (λ run. IsInLimits run.machine) }
-    ensures refused { result ≡ Err WordsError.Refused → run_after (texts_of words.entry.now) ≡ None }
+    ensures refused { result ≡ Err WordsError.Refused
+        → run_after (texts_of words.entry.now) ≡ None }
 {
     match read_given(alloc, &RUN, words) {
         Ok(given) => run_in(&given).ok_or(WordsError::Refused),
@@ -137,7 +161,8 @@ fn compare_after<'a>(alloc: Global, words: &'a [String]) -> Result<MachineWords<
     ensures taken { IfOk result
         (λ machine. compare_after (texts_of words.entry.now) ≡ Some (machine_in machine)) }
     ensures limits { IfOk result IsInLimits }
-    ensures refused { result ≡ Err WordsError.Refused → compare_after (texts_of words.entry.now) ≡ None }
+    ensures refused { result ≡ Err WordsError.Refused
+        → compare_after (texts_of words.entry.now) ≡ None }
 {
     match read_given(alloc, &COMPARE, words) {
         Ok(given) => machine_in(&given).ok_or(WordsError::Refused),
@@ -145,10 +170,25 @@ fn compare_after<'a>(alloc: Global, words: &'a [String]) -> Result<MachineWords<
     }
 }
 
+// The session that the words after `debug` ask for.
+fn debug_after<'a>(alloc: Global, words: &'a [String]) -> Result<DebugWords<'a>, WordsError>
+    ensures taken { IfOk result
+        (λ debug. debug_after (texts_of words.entry.now) ≡ Some (debug_in debug)) }
+    ensures limits { IfOk result (λ debug. IsInLimits debug.machine) }
+    ensures refused { result ≡ Err WordsError.Refused
+        → debug_after (texts_of words.entry.now) ≡ None }
+{
+    match read_given(alloc, &DEBUG, words) {
+        Ok(given) => debug_in(&given).ok_or(WordsError::Refused),
+        Err(error) => Err(error),
+    }
+}
+
 // The file that the words after `read` name.
 fn read_after<'a>(alloc: Global, words: &'a [String]) -> Result<&'a str, WordsError>
     ensures taken { IfOk result (λ file. read_after (texts_of words.entry.now) ≡ Some file.now) }
-    ensures refused { result ≡ Err WordsError.Refused → read_after (texts_of words.entry.now) ≡ None }
+    ensures refused { result ≡ Err WordsError.Refused
+        → read_after (texts_of words.entry.now) ≡ None }
 {
     match read_given(alloc, &READ, words) {
         Ok(given) => given.value_of(FILE).ok_or(WordsError::Refused),
@@ -168,24 +208,26 @@ fn demo_after(alloc: Global, words: &[String]) -> Result<u64, WordsError>
 }
 
 /// Reads the words of a command line, without the program's own name: the first is the command,
-/// which is `run`, `compare`, `read` or `demo`.
+/// which is `run`, `compare`, `debug`, `read` or `demo`.
 ///
-/// The plain words are an image for `run` and `compare`, a file for `read`, and a number for `demo`.
-/// A word that begins with `--` names an option by its whole name: for `run` and `compare` `--raw`,
-/// `--script FILE`, `--input FILE`, `--budget N`, `--ram-mib N`, `--poll N`, `--patrol N`,
-/// `--harts N` and `--schedule FILE`, for `run` besides `--records FILE` and `--tables FILE`, and
-/// none for the others. The value follows the first `=` in the word, or is the next word, which must
-/// not begin with `-` unless it is `-` alone. After the word `--` each word is plain. Options and
-/// plain words come in any order. A number is decimal digits, or `0x` and hexadecimal digits, within
-/// the limits of its option, or below 2^64 for `demo`.
+/// The plain words are an image for `run` and `compare`, an image and the file of commands for
+/// `debug`, a file for `read`, and a number for `demo`. A word that begins with `--` names an option by
+/// its whole name: for `run`, `compare` and `debug` `--raw`, `--script FILE`, `--input FILE`,
+/// `--budget N`, `--ram-mib N`, `--poll N`, `--patrol N`, `--harts N` and `--schedule FILE`, for `run`
+/// besides `--records FILE` and `--tables FILE`, and none for the others. The value follows the first
+/// `=` in the word, or is the next word, which must not begin with `-` unless it is `-` alone. After
+/// the word `--` each word is plain. Options and plain words come in any order. A number is decimal
+/// digits, or `0x` and hexadecimal digits, within the limits of its option, or below 2^64 for `demo`.
 ///
 /// Refused: no command or another one; an unknown option; another word that begins with `-` and is
 /// longer; an option given twice; a missing or an empty value; a value for `--raw`; a missing,
 /// surplus or empty plain word; a number that is none or out of its range.
 pub fn read_words<'a>(alloc: Global, words: &'a [String]) -> Result<Command<'a>, WordsError>
-    ensures taken { IfOk result (λ command. command_of (texts_of words.entry.now) ≡ Some (command_in command)) }
+    ensures taken { IfOk result
+        (λ command. command_of (texts_of words.entry.now) ≡ Some (command_in command)) }
     ensures limits { IfOk result AreInLimits }
-    ensures refused { result ≡ Err WordsError.Refused → command_of (texts_of words.entry.now) ≡ None }
+    ensures refused { result ≡ Err WordsError.Refused
+        → command_of (texts_of words.entry.now) ≡ None }
 {
     let Some((command, rest)) = words.split_first() else {
         return Err(WordsError::Refused);
@@ -195,6 +237,8 @@ pub fn read_words<'a>(alloc: Global, words: &'a [String]) -> Result<Command<'a>,
         Ok(Command::Run(run_after(alloc, rest)?))
     } else if name == "compare" {
         Ok(Command::Compare(compare_after(alloc, rest)?))
+    } else if name == "debug" {
+        Ok(Command::Debug(debug_after(alloc, rest)?))
     } else if name == "read" {
         Ok(Command::Read(read_after(alloc, rest)?))
     } else if name == "demo" {

@@ -9,9 +9,9 @@ mod limits;
 mod tables;
 
 pub use clap_words::WordsError;
-pub use commands::{Command, MachineWords, RunWords, read_words};
+pub use commands::{Command, DebugWords, MachineWords, RunWords, read_words};
 pub use limits::{
-    DEFAULT_BUDGET, DEFAULT_HARTS, DEFAULT_PATROL, DEFAULT_POLL, DEFAULT_RAM_MIB, IMAGE_LIMIT,
-    INPUT_LIMIT, LEAST_RAM_MIB, MOST_HARTS, MOST_RAM_MIB, PRINTED_LIMIT, SCHEDULE_LIMIT,
-    SCRIPT_LIMIT,
+    COMMANDS_LIMIT, DEFAULT_BUDGET, DEFAULT_HARTS, DEFAULT_PATROL, DEFAULT_POLL, DEFAULT_RAM_MIB,
+    IMAGE_LIMIT, INPUT_LIMIT, LEAST_RAM_MIB, MOST_HARTS, MOST_RAM_MIB, PRINTED_LIMIT,
+    SCHEDULE_LIMIT, SCRIPT_LIMIT,
 };

@@ -16,6 +16,9 @@ pub const INPUT_LIMIT: u64 = 16_777_216;
 /// The most bytes of a schedule.
 pub const SCHEDULE_LIMIT: u64 = 16_777_216;
 
+/// The most bytes of a file of the debugger's commands.
+pub const COMMANDS_LIMIT: u64 = 1_048_576;
+
 /// The most bytes of a file that is printed.
 pub const PRINTED_LIMIT: u64 = 16_777_216;
 

@@ -72,6 +72,9 @@ pub(crate) const TABLES: OptionRow = OptionRow {
 /// The file of the image, a plain word.
 pub(crate) const IMAGE: &str = "image";
 
+/// The file of the debugger's commands, a plain word.
+pub(crate) const COMMANDS: &str = "commands";
+
 /// The file that is printed, a plain word.
 pub(crate) const FILE: &str = "file";
 
@@ -89,6 +92,14 @@ pub(crate) const RUN: Table = Table {
 /// The command `compare`.
 pub(crate) const COMPARE: Table = Table {
     plain: &[IMAGE],
+    options: &[
+        RAW, SCRIPT, INPUT, BUDGET, RAM_MIB, POLL, PATROL, HARTS, SCHEDULE,
+    ],
+};
+
+/// The command `debug`.
+pub(crate) const DEBUG: Table = Table {
+    plain: &[IMAGE, COMMANDS],
     options: &[
         RAW, SCRIPT, INPUT, BUDGET, RAM_MIB, POLL, PATROL, HARTS, SCHEDULE,
     ],

@@ -7,6 +7,7 @@ use Rattle.ras_cli.specs.Follows.{Follows}
 use Rattle.ras_cli.proofs.FollowsLemmas.{if_some_all}
 use Rattle.ras_cli.proofs.PlanLemmas.{follows_value, stops_follow, made_ends}
 use Rattle.ras_cli.proofs.ComparisonLemmas.{read_compared, refused_compared}
+use Rattle.ras_cli.proofs.DemoLemmas.{read_demonstrated, refused_demonstrated}
 use Rattle.ras_cli.proofs.compare.compare_command.Goals as goal
 
 pub returns-in-Ok-clause-follows : goal.returns-in-Ok-clause-follows
@@ -22,6 +23,10 @@ pub returns-in-Ok-clause-comparison : goal.returns-in-Ok-clause-comparison
 returns-in-Ok-clause-comparison g c =
     read_compared (request_in c.args.what) c.request_settings.result _ _ _ _ _ _ _ c.request_settings.ensures.settings c.in-Ok.ensures.reached (returns-in-Ok-clause-follows g c) c.compare_inputs.ensures.keeps
 
+pub returns-in-Ok-clause-demo : goal.returns-in-Ok-clause-demo
+returns-in-Ok-clause-demo g c =
+    read_demonstrated c.args.what c.request_settings.result _ _ _ _ _ _ _ c.request_settings.ensures.settings c.in-Ok.ensures.reached c.compare_inputs.ensures.follows c.compare_inputs.ensures.keeps
+
 pub returns-in-Ok-clause-ends : goal.returns-in-Ok-clause-ends
 returns-in-Ok-clause-ends g c =
     let r = c.in-Ok.ensures.reached.reached in
@@ -34,6 +39,9 @@ returns-in-Err-clause-follows g c =
 
 pub returns-in-Err-clause-comparison : goal.returns-in-Err-clause-comparison
 returns-in-Err-clause-comparison g c = refused_compared (request_in c.args.what) _ _ _ _ _ c.in-Err.ensures.stopped
+
+pub returns-in-Err-clause-demo : goal.returns-in-Err-clause-demo
+returns-in-Err-clause-demo g c = refused_demonstrated c.args.what _ _ _ _ _ c.in-Err.ensures.stopped
 
 pub returns-in-Err-clause-ends : goal.returns-in-Err-clause-ends
 returns-in-Err-clause-ends g c = c.in-Err.ensures.stopped.ends

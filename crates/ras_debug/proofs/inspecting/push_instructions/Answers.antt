@@ -1,4 +1,4 @@
-use Rattle.std.proofs.Common.{◌≡◌, ◌∙◌, ◌++◌, ◌+◌, ◌*◌, ℕ, List, length, ap, arith}
+use Rattle.std.proofs.Common.{◌∙◌, ◌++◌, ◌+◌, ◌*◌, ℕ, List, length, ap, arith}
 use Rattle.ras_debug.specs.Replies.{instruction_line, instruction_lines}
 use Rattle.ras_debug.proofs.Lines.{no_instructions, instructions_more}
 use Rattle.ras_debug.proofs.inspecting.push_instructions.Goals as goal

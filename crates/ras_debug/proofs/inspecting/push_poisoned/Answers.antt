@@ -1,4 +1,4 @@
-use Rattle.std.proofs.Common.{◌≡◌, ◌∙◌, ◌++◌, ◌+◌, ℕ, List, length, ap, arith}
+use Rattle.std.proofs.Common.{◌∙◌, ◌++◌, ◌+◌, ℕ, List, length, ap, arith}
 use Rattle.std.specs.Int.{from_bool}
 use Rattle.ras_debug.specs.Replies.{is_poison, seen, poison_line}
 use Rattle.ras_debug.proofs.Lines.{no_poison, none_counted, poison_more, counted_more, at_most_one}

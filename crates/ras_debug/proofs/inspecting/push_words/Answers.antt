@@ -1,4 +1,4 @@
-use Rattle.std.proofs.Common.{◌≡◌, ◌∙◌, ◌++◌, ◌+◌, ℕ, List, length, ap, arith}
+use Rattle.std.proofs.Common.{◌∙◌, ◌++◌, ◌+◌, ℕ, List, length, ap, arith}
 use Rattle.ras_debug.specs.Replies.{word_line}
 use Rattle.ras_debug.proofs.Lines.{no_words, words_more}
 use Rattle.ras_debug.proofs.inspecting.push_words.Goals as goal

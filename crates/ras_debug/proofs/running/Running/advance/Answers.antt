@@ -1,4 +1,4 @@
-use Rattle.std.proofs.Common.{◌≡◌, ◌+◌, ◌-◌, ◌∙◌, sym, ap, arith}
+use Rattle.std.proofs.Common.{◌+◌, ◌-◌, ◌∙◌, sym, ap, arith}
 use Rattle.ras_debug.specs.Running.{advanced}
 use Rattle.ras_debug.proofs.Steps.{advanced_ended, advanced_next, advanced_over}
 use Rattle.ras_debug.proofs.running.Running.advance.Goals as goal
