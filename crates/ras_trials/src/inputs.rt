@@ -294,6 +294,27 @@ fn lines_by_step(rt: HostRuntime) {
 }
 
 #[test]
+fn a_copy_with_room(rt: HostRuntime) {
+    let early = ScriptLine {
+        step: 1,
+        act: Act::Scrub { w: 1 },
+    };
+    match Script::read(rt.alloc(), b"flip 2 0x80000000 3", RAM_WORDS) {
+        Ok(script) => match script.copy(rt.alloc(), 1) {
+            Ok(mut copy) => {
+                assert!(rt; copy.lines() == script.lines());
+                assert!(rt; copy.lines().len() == 1);
+                copy.insert(early);
+                assert_eq!(rt; copy.lines().len(), 2);
+                assert!(rt; copy.lines().first() == Some(&early));
+            }
+            Err(_) => panic!(rt; "no memory"),
+        },
+        Err(error) => panic!(rt; "{error}"),
+    }
+}
+
+#[test]
 fn the_canonical_text(rt: HostRuntime) {
     for (text, written) in [
         (" flip  0 0x80000000 3", "flip 0 0x0000000080000000 3\n"),

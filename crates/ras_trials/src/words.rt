@@ -2,9 +2,9 @@
 
 use ras_numbers::{address, hex_digits, number};
 use ras_words::{
-    Command, DEFAULT_BUDGET, DEFAULT_HARTS, DEFAULT_PATROL, DEFAULT_POLL, DEFAULT_RAM_MIB,
-    IMAGE_LIMIT, INPUT_LIMIT, LEAST_RAM_MIB, MOST_HARTS, MOST_RAM_MIB, MachineWords, RunWords,
-    SCHEDULE_LIMIT, SCRIPT_LIMIT, WordsError, read_words,
+    COMMANDS_LIMIT, Command, DEFAULT_BUDGET, DEFAULT_HARTS, DEFAULT_PATROL, DEFAULT_POLL,
+    DEFAULT_RAM_MIB, DebugWords, IMAGE_LIMIT, INPUT_LIMIT, LEAST_RAM_MIB, MOST_HARTS, MOST_RAM_MIB,
+    MachineWords, PRINTED_LIMIT, RunWords, SCHEDULE_LIMIT, SCRIPT_LIMIT, WordsError, read_words,
 };
 use std::alloc::{AllocError, Global};
 
@@ -80,6 +80,8 @@ fn the_limits(rt: HostRuntime) {
         (MOST_RAM_MIB, 64),
         (DEFAULT_RAM_MIB, 16),
         (SCHEDULE_LIMIT, 16_777_216),
+        (COMMANDS_LIMIT, 1_048_576),
+        (PRINTED_LIMIT, 16_777_216),
         (DEFAULT_HARTS, 1),
         (MOST_HARTS, 4),
         (DEFAULT_POLL, 1_000),
@@ -145,6 +147,30 @@ fn words_that_are_taken(rt: HostRuntime) -> Result<(), AllocError> {
 }
 
 #[test]
+fn words_of_the_other_commands(rt: HostRuntime) -> Result<(), AllocError> {
+    let raw = MachineWords { raw: true, ..BARE };
+    let debug = DebugWords {
+        machine: raw,
+        commands: "c",
+    };
+    for (line, wanted) in [
+        ("compare a.elf", Command::Compare(BARE)),
+        ("compare --raw a.elf", Command::Compare(raw)),
+        ("debug a.elf --raw c", Command::Debug(debug)),
+        ("debug --raw -- a.elf c", Command::Debug(debug)),
+        ("read f", Command::Read("f")),
+        ("demo 0x10", Command::Demo(16)),
+    ] {
+        let words = words_of(rt.alloc(), line)?;
+        assert!(rt;
+            read_words(rt.alloc(), words.as_slice()) == Ok(wanted),
+            "{line}"
+        );
+    }
+    Ok(())
+}
+
+#[test]
 fn words_that_are_refused(rt: HostRuntime) -> Result<(), AllocError> {
     for line in [
         "",
@@ -182,6 +208,12 @@ fn words_that_are_refused(rt: HostRuntime) -> Result<(), AllocError> {
         "run a.elf --harts 0",
         "run a.elf --harts 5",
         "run a.elf --schedule",
+        "compare a.elf --records r",
+        "debug a.elf",
+        "debug a.elf c d",
+        "debug a.elf c --tables t",
+        "read f --raw",
+        "demo x",
     ] {
         let words = words_of(rt.alloc(), line)?;
         assert!(rt;
