@@ -1,13 +1,12 @@
 -- The causes of a step's end.
-use Rattle.std.proofs.Common.{◌≡◌, ℕ, ◌+◌, ◌-◌, drop, Bool, true, false, List, [], ◌++◌, refl, arith, append-nil}
+use Rattle.std.proofs.Common.{◌≡◌, ℕ, ◌+◌, ◌-◌, Bool, true, false, List, [], ◌++◌, refl, arith, append-nil}
 use Rattle.poison_mem.specs.declared.cell.Cell.{Cell}
 use Rattle.poison_mem.specs.declared.cell.Cell.TheVariants.{Good, Poison}
 use Rattle.poison_mem.specs.declared.cell.UseKind.{UseKind}
 use Rattle.poison_mem.specs.declared.event.Event.{Event}
 use Rattle.poison_mem.specs.Bus.{BusMeaning, logged_all}
 use Rattle.poison_mem.specs.Asking.{Asking, Answer, Ask, Played, Ended, Poisoned, by_cell, play, AsksWithin}
-use Rattle.rv64_hart.specs.declared.peers.Peers.{Peers}
-use Rattle.rv64_hart.specs.Around.{Around, around_at}
+use Rattle.rv64_hart.specs.Around.{Around}
 use Rattle.rv64_hart.specs.State.{ArchitecturalState, next_pc}
 use Rattle.rv64_hart.specs.Outcome.{Outcome, OutcomeEnd, Goes, Stops, Store, has_room}
 use Rattle.rv64_hart.specs.Step.{Scene, Stepped, scene, stored, finished_by, finished, step_of}
@@ -57,13 +56,6 @@ module _ {B L : Type 0} (bus : BusMeaning B) (logged : L → Event → L) where
   unfolding finished
   finished_caused words s (Ended o b log) within = room_caused (has_room s.console o.bytes) s o.after o.taken o.stores o.bytes o.ending b log within.stops
   finished_caused words s (Poisoned w use_kind b log) within = (refl, refl)
-
-  -- what the program hands on is what the step is told
-  pub told_turn : (words words' : ℕ) (peers : Peers) (now : ℕ) (input rest : List ℕ) (place : ℕ) (h : ArchitecturalState) (s : Scene B L) (t : Stepped B L)
-      → words' ≡ words → rest ≡ drop place input
-      → step_of bus logged (turn (record { words = words'; peers = peers; now = now; input = rest }) h) s ≡ t
-      → step_of bus logged (turn (around_at words peers now input place) h) s ≡ t
-  told_turn words words' peers now input rest place h s t same is e = rw (← same, ← is) e
 
   pub turn_caused : (around : Around) (s : Scene B L) (t : Stepped B L)
       → step_of bus logged (turn around s.hart) s ≡ t → Causes s (play bus logged (turn around s.hart) s.bus s.log) t

@@ -2,7 +2,7 @@
 use Rattle.std.proofs.Common.{◌≡◌, ◌≢◌, ℕ, zero, suc, ◌+◌, ◌-◌, ◌*◌, ◌/◌, ◌%◌, ◌^◌, ◌<◌, ◌≤◌, Bool, true, false, List, [], ◌∷◌, ◌++◌, map, length, drop, refl, sym, ap, ◌∙◌, subst, arith, add-one}
 use Rattle.std.specs.Prelude.{◌==◌, slice_set, slice_index_or, if◌then◌else◌}
 use Rattle.std.specs.Int.{from_bool}
-use Rattle.std.proofs.Math.Nat.{div-div-eq-div-mul, div-eq_of_lt}
+use Rattle.std.proofs.Math.Nat.{div-eq_of_lt}
 use Rattle.std.proofs.lemmas.Bool.Decides.{nat_tests}
 use Rattle.std.proofs.lemmas.Grind.{pow_more}
 use Rattle.std.proofs.Math.Pow.{pow_mono}
@@ -85,34 +85,9 @@ numbered_stopped id (suc n) entry = (refl, numbered_stopped (id + 1) n entry)
 
 -- ---- which are started
 
-bool_bit : (b : Bool) → (from_bool b == 1) ≡ b
-bool_bit true = refl
-bool_bit false = refl
-
 pub bool_small : (b : Bool) → from_bool b ≤ 1
 bool_small true = omega arith
 bool_small false = omega arith
-
-first_bit_of : (b : Bool) (x : ℕ) → has_bit (from_bool b + 2 * x) 0 ≡ b
-first_bit_of b x =
-    let small : from_bool b ≤ 1 = bool_small b in
-    let e : (from_bool b + 2 * x) / 2 ^ 0 % 2 ≡ from_bool b = omega arith in
-    ap (λ n. n == 1) e ∙ bool_bit b
-
-next_bit_of : (b : Bool) (x i : ℕ) → has_bit (from_bool b + 2 * x) (i + 1) ≡ has_bit x i
-next_bit_of b x i =
-    let small : from_bool b ≤ 1 = bool_small b in
-    let more : 2 ^ (i + 1) ≡ 2 * 2 ^ i = omega (arith, pow_more 2 i) in
-    let half : (from_bool b + 2 * x) / 2 ≡ x = omega arith in
-    ap (λ p. (from_bool b + 2 * x) / p % 2 == 1) more
-    ∙ ap (λ n. n % 2 == 1) (sym (div-div-eq-div-mul (from_bool b + 2 * x) 2 (2 ^ i)) ∙ ap (λ n. n / 2 ^ i) half)
-
-pub bits_at : (harts : List ArchitecturalState) (i : ℕ) (d : ArchitecturalState) → i < length harts
-    → has_bit (started_bits harts) i ≡ (slice_index_or harts i d).started
-bits_at [] i d within = absurd (omega arith)
-bits_at (h ∷ harts) zero d within = first_bit_of h.started (started_bits harts)
-bits_at (h ∷ harts) (suc i) d within =
-    ap (has_bit (from_bool h.started + 2 * started_bits harts)) (sym (add-one i)) ∙ next_bit_of h.started (started_bits harts) i ∙ bits_at harts i d (omega arith)
 
 pub bits_below : (harts : List ArchitecturalState) → started_bits harts < 2 ^ length harts
 bits_below [] = omega arith
@@ -279,29 +254,9 @@ module _ {B L : Type 0} (bus : BusMeaning B) (logged : L → Event → L) where
       → harts_step_of bus logged acting (turn around h) s ≡ t → StayHarts s.harts t.after.harts
   left_so acting s t around h are is e = rw (← e) (harts_step_stays bus logged acting s around h are is)
 
--- the hart that acts
-pub acts : (harts waiting : List ArchitecturalState) (i : ℕ) (h : ArchitecturalState) → slice_set waiting i h ≡ harts → i < length waiting → hart_at harts i ≡ h
-acts harts waiting i h e within = rw (← e) (get_or-set_same waiting i h (reset i 0) within)
-
--- it is the one of its place
-pub acts_as : (harts : List ArchitecturalState) (i : ℕ) (h : ArchitecturalState) → AreHarts harts → i < length harts → hart_at harts i ≡ h → h.number ≡ i
-acts_as harts i h are within is =
-    ap (λ (h : ArchitecturalState). h.number) (sym is) ∙ numbered_at 0 harts i (reset i 0) are.numbered within ∙ omega arith
-
--- what it is told of its peers is so
-pub told_peers : (harts : List ArchitecturalState) (i : ℕ) (h : ArchitecturalState) (peers : Peers) → AreHarts harts → i < length harts → hart_at harts i ≡ h → peers ≡ peers_of harts
-    → (1 ≤ peers.harts) × (peers.harts ≤ 4) × (h.number < peers.harts) × (has_bit peers.started h.number ≡ h.started)
-told_peers harts i h peers are within is told =
-    let number : h.number ≡ i = acts_as harts i h are within is in
-    let some : 1 ≤ length harts = are.some in
-    let few : length harts ≤ 4 = are.few in
-    let count : peers.harts ≡ length harts = ap (λ (p : Peers). p.harts) told in
-    let bits : peers.started ≡ started_bits harts = ap (λ (p : Peers). p.started) told in (
-      omega arith,
-      omega arith,
-      omega arith,
-      rw (bits, number) (bits_at harts i (reset i 0) within ∙ ap (λ (h : ArchitecturalState). h.started) is),
-    )
+-- a hart has the number of its place
+pub acts_as : (harts : List ArchitecturalState) (i : ℕ) → AreHarts harts → i < length harts → (hart_at harts i).number ≡ i
+acts_as harts i are within = numbered_at 0 harts i (reset i 0) are.numbered within ∙ omega arith
 
 -- a hart is set, be it the one that acts or one that waits
 pub set_acting : (waiting : List ArchitecturalState) (at i : ℕ) (acting h : ArchitecturalState) → i ≡ at
@@ -351,7 +306,7 @@ module _ {B L : Type 0} (bus : BusMeaning B) (logged : L → Event → L) where
       ≡ harts_stepped answer (harts_scene (slice_set affected_to.waiting i acted) place' console' affected_to.memory log') =
       rw (← is, ← same) (whole_step bus logged i h after acted waiting memory stepped_to affected_to peers answer now input place place' console console' log log' there (told ∙ ap peers_of (sym is)) step applied kept) in
       let left : StayHarts harts (slice_set affected_to.waiting i acted) =
-      left_so bus logged i (harts_scene harts place console whole log) _ (around_at (bus.words whole) (peers_of harts) now input place) (hart_at harts i) are (acts_as harts i (hart_at harts i) are within refl) stepped_so in
+      left_so bus logged i (harts_scene harts place console whole log) _ (around_at (bus.words whole) (peers_of harts) now input place) (hart_at harts i) are (acts_as harts i are within) stepped_so in
       let set' : length (slice_set affected_to.waiting i acted) ≡ length affected_to.waiting = length-set affected_to.waiting i acted in
       let len' : length (slice_set affected_to.waiting i acted) ≡ length harts = left.len in
       let there' : i < length affected_to.waiting = omega arith in

@@ -5,7 +5,9 @@ ghost use Rattle.ras_bits.specs.Bits.{has_bit};
 ghost use Rattle.rv64_hart.specs.Harts.{affected, effect_applied};
 ghost use Rattle.rv64_hart.specs.Within.{HasEntry, CanBeDone};
 
+use crate::around::Around;
 use crate::console::Console;
+use crate::decoded::{DecodedWord, decoded_words};
 use crate::ends::{Effect, TurnEnd};
 use crate::hart::Hart;
 use crate::peers::Peers;
@@ -98,6 +100,8 @@ pub struct Harts<B> {
     /// Its number. The hart that waits in its place means nothing.
     at: usize,
     shared: Shared<B>,
+    /// Words that were decoded lately, at the places of their pcs.
+    decoded: Vec<DecodedWord>,
 }
 
 impl<B> Model for Harts<B> {
@@ -129,6 +133,7 @@ impl<B: Drop> Harts<B> {
             acting,
             at: 0,
             shared: Shared::make(alloc, memory, harts, entry)?,
+            decoded: decoded_words(alloc)?,
         })
     }
 }
@@ -229,11 +234,12 @@ impl<B: Bus> Harts<B> {
             (harts_scene self.old.harts place.old con.old self.old.memory log.old)
             ≡ harts_stepped result (harts_scene self.new.harts place.new con.new self.new.memory log.new) }
     {
-        let peers = self.peers();
+        let around = Around::at(self.shared.words(), self.peers(), now, input, *place);
         select(&mut self.acting, &mut self.at, &mut self.shared, i as usize);
+        let decoded = self.decoded.as_mut_slice();
         let answer = self
             .acting
-            .step(&mut self.shared, log, now, input, place, peers, con);
+            .act(around, decoded, place, &mut self.shared, log, con);
         apply(&mut self.acting, &mut self.shared, i, answer);
         answer
     }

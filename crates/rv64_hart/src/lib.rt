@@ -8,6 +8,7 @@ mod access;
 mod around;
 mod console;
 mod console_calls;
+mod decoded;
 mod ends;
 mod firmware;
 mod hart;

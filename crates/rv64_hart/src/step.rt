@@ -11,24 +11,24 @@ ghost use Rattle.rv64_hart.specs.Outcome.{went};
 ghost use Rattle.rv64_hart.specs.Program.{IsTold, IsAlone};
 ghost use Rattle.rv64_hart.specs.Step.{scene, stepped, step_of};
 ghost use Rattle.rv64_hart.specs.Translation.{At};
-ghost use Rattle.rv64_hart.specs.Turn.{turn, turn_after, instruction_turn, fetched_at, executed_word, executed, called};
+ghost use Rattle.rv64_hart.specs.Turn.{turn, turn_after, instruction_turn, fetched_at, executed, called};
 ghost use Rattle.rv64_hart.specs.Within.{TurnWithin, CanBeDone};
 
 use crate::access::instruction_in;
 use crate::around::Around;
 use crate::console::Console;
+use crate::decoded::{DecodedWord, instruction_of};
 use crate::ends::{Effect, TurnEnd, poisoned};
 use crate::hart::Hart;
 use crate::locate::Located;
 use crate::operands::{even, immediate, offset, upper_imm};
 use crate::operation::{Exchange, Operation};
-use crate::parts::behind;
 use crate::peers::Peers;
 use crate::traps::Exception;
 use poison_mem::{Bus, Cell, EventLog, UseKind};
 use ras_bits::{Access, Mode, word_at};
 use rv64_alu::{alu, alu_w, branch, muldiv};
-use rv64_decode::{Instr, decode};
+use rv64_decode::Instr;
 
 impl Hart {
     /// One step over a bus that logs to `log`, in step `now` of the machine: a stopped hart does nothing; else a pending
@@ -70,13 +70,29 @@ impl Hart {
         ensures effect { CanBeDone result }
         ensures words { B.meaning.words bus.new ≡ B.meaning.words bus.old }
     {
-        let around = Around {
-            words: bus.words(),
-            peers,
-            now,
-            input: behind(input, *place),
-        };
-        self.take_turn(around, place, bus, log, con)
+        let around = Around::at(bus.words(), peers, now, input, *place);
+        self.act(around, &mut [], place, bus, log, con)
+    }
+
+    /// A step that is told this. An instruction is taken of those that were decoded, where it is there.
+    pub(crate) fn act<B: Bus, G: EventLog>(
+        &mut self,
+        around: Around<'_>,
+        decoded: &mut [DecodedWord],
+        place: &mut u64,
+        bus: &mut B,
+        log: &mut G,
+        con: &mut Console,
+    ) -> TurnEnd
+        requires { IsTold (B.meaning.words bus.old) place.old (around_of around) }
+        ensures step { step_of B.meaning G.logged (turn (around_of around.entry) self.old)
+            (scene self.old place.old con.old bus.old log.old)
+            ≡ stepped result (scene self.new place.new con.new bus.new log.new) }
+        ensures number { self.new.number ≡ self.old.number }
+        ensures started { self.new.started ≡ self.old.started }
+        ensures effect { CanBeDone result }
+    {
+        self.take_turn(around, decoded, place, bus, log, con)
     }
 
     /// A step: nothing where the hart is stopped, else the interrupt that is pending, or an instruction.
@@ -84,6 +100,7 @@ impl Hart {
     fn take_turn<B: Bus, G: EventLog>(
         &mut self,
         around: Around<'_>,
+        decoded: &mut [DecodedWord],
         place: &mut u64,
         bus: &mut B,
         log: &mut G,
@@ -102,7 +119,7 @@ impl Hart {
                 self.trap(cause, 0);
                 TurnEnd::Went(Effect::Nothing)
             }
-            None => self.step_instruction(around, place, bus, log, con),
+            None => self.step_instruction(around, decoded, place, bus, log, con),
         }
     }
 
@@ -111,6 +128,7 @@ impl Hart {
     fn step_instruction<B: Bus, G: EventLog>(
         &mut self,
         around: Around<'_>,
+        decoded: &mut [DecodedWord],
         place: &mut u64,
         bus: &mut B,
         log: &mut G,
@@ -123,7 +141,7 @@ impl Hart {
     {
         let pc = self.pc();
         match self.locate(around.words, Access::Fetch, pc, bus, log) {
-            Located::At(physical) => self.fetch(around, physical, place, bus, log, con),
+            Located::At(physical) => self.fetch(around, decoded, physical, place, bus, log, con),
             Located::Refused(exception) => {
                 self.raise(exception, pc);
                 TurnEnd::Went(Effect::Nothing)
@@ -133,10 +151,11 @@ impl Hart {
     }
 
     /// Fetches the instruction at a physical address, and does it.
-    #[tactic(auto, unfolding(crate::specs::Turn::fetched_at, crate::specs::Step::finished))]
+    #[tactic(auto, unfolding(crate::specs::Turn::fetched_at, crate::specs::Turn::executed_word, crate::specs::Step::finished))]
     fn fetch<B: Bus, G: EventLog>(
         &mut self,
         around: Around<'_>,
+        decoded: &mut [DecodedWord],
         physical: u64,
         place: &mut u64,
         bus: &mut B,
@@ -153,28 +172,10 @@ impl Hart {
             Cell::Poison => poisoned(word_at(around.words, physical), UseKind::Fetch),
             Cell::Good(value) => {
                 let word = instruction_in(self.pc(), value);
-                self.execute_word(around, word, place, bus, log, con)
+                let instr = instruction_of(decoded, self.pc(), word);
+                self.execute(around, word, instr, place, bus, log, con)
             }
         }
-    }
-
-    /// Does the instruction of a word.
-    #[tactic(auto, unfolding(crate::specs::Turn::executed_word))]
-    fn execute_word<B: Bus, G: EventLog>(
-        &mut self,
-        around: Around<'_>,
-        word: u32,
-        place: &mut u64,
-        bus: &mut B,
-        log: &mut G,
-        con: &mut Console,
-    ) -> TurnEnd
-        requires { IsTold (B.meaning.words bus.old) place.old (around_of around) }
-        ensures { step_of B.meaning G.logged (executed_word (around_of around.entry) self.old word)
-            (scene self.old place.old con.old bus.old log.old)
-            ≡ stepped result (scene self.new place.new con.new bus.new log.new) }
-    {
-        self.execute(around, word, decode(word), place, bus, log, con)
     }
 
     /// Does an instruction, of this word.

@@ -4,7 +4,7 @@ use Rattle.rv64_hart.specs.Around.{around_at}
 use Rattle.rv64_hart.specs.Step.{Stepped, scene}
 use Rattle.rv64_hart.specs.StepLaws.{step_keeps_words}
 use Rattle.rv64_hart.specs.WithinLaws.{turn_within}
-use Rattle.rv64_hart.proofs.Endings.{told_turn, turn_caused, turn_stays}
+use Rattle.rv64_hart.proofs.Endings.{turn_caused}
 use Rattle.rv64_hart.proofs.hart.Hart.step.Goals as goal
 
 pub returns-clause-asks : goal.returns-clause-asks
@@ -18,21 +18,9 @@ returns-clause-causes g c =
     turn_caused g.B.Bus.meaning g.G.EventLog.logged
     (around_at (g.B.Bus.meaning.words c.args.bus.now) c.args.peers c.args.now c.args.input.now c.args.place.now)
     (scene c.args.self.now c.args.place.now c.args.con.now c.args.bus.now c.args.log.now) _
-    (told_turn g.B.Bus.meaning g.G.EventLog.logged _ _ c.args.peers c.args.now c.args.input.now _ c.args.place.now c.args.self.now _ _ c.words.ensures c.behind.ensures c.take_turn.ensures)
-
-pub returns-clause-number : goal.returns-clause-number
-returns-clause-number g c =
-    (turn_stays g.B.Bus.meaning g.G.EventLog.logged _ (scene c.args.self.now c.args.place.now c.args.con.now c.args.bus.now c.args.log.now) _ c.take_turn.ensures).0
-
-pub returns-clause-started : goal.returns-clause-started
-returns-clause-started g c =
-    (turn_stays g.B.Bus.meaning g.G.EventLog.logged _ (scene c.args.self.now c.args.place.now c.args.con.now c.args.bus.now c.args.log.now) _ c.take_turn.ensures).1
-
-pub returns-clause-effect : goal.returns-clause-effect
-returns-clause-effect g c =
-    (turn_stays g.B.Bus.meaning g.G.EventLog.logged _ (scene c.args.self.now c.args.place.now c.args.con.now c.args.bus.now c.args.log.now) _ c.take_turn.ensures).2
+    (rw (← c.words.ensures, ← c.at-around.ensures.value) c.act.ensures.step)
 
 pub returns-clause-words : goal.returns-clause-words
 returns-clause-words g c =
-    ap (λ (t : Stepped _ _). g.B.Bus.meaning.words t.after.bus) (sym c.take_turn.ensures)
+    ap (λ (t : Stepped _ _). g.B.Bus.meaning.words t.after.bus) (sym c.act.ensures.step)
     ∙ step_keeps_words g.B.Bus.meaning g.G.EventLog.logged _ (scene c.args.self.now c.args.place.now c.args.con.now c.args.bus.now c.args.log.now) g.met.B.Bus.keeps_words
