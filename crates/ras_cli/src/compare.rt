@@ -74,8 +74,8 @@ fn run_both(alloc: Global, inputs: &Inputs, settings: &Settings) -> Result<Compa
         (EndsBy (given_in inputs.now)
         (flat_of inputs.now.image settings.now) lines (ending_in faulty) faulty.state)) }
 {
-    let mut machine = Machine::make(alloc, &inputs.image, settings)?;
     let mut flat = Flat::make(alloc, &inputs.image, settings.budget, settings.harts)?;
+    let mut machine = Machine::make(alloc, &inputs.image, settings)?;
     let mut text = Report::new();
     let mut flat_text = Report::new();
     let input = inputs.input.as_slice();
@@ -85,6 +85,8 @@ fn run_both(alloc: Global, inputs: &Inputs, settings: &Settings) -> Result<Compa
     report(&machine, &ending, &mut text);
     flat_report(&flat, &flat_ending, &mut flat_text);
     let verdict = verdict(&machine, &ending, &flat, &flat_ending);
+    // By a call: a drop in place has this proof go through each part of a machine.
+    drop(flat);
     Ok(Comparison {
         machine,
         report: text,
@@ -158,7 +160,12 @@ fn compare_inputs<H: Host>(
         (H.faults host.new) result.code }
 {
     match run_both(alloc, inputs, settings) {
-        Ok(both) => write_comparison(host, &both),
+        Ok(both) => {
+            let status = write_comparison(host, &both);
+            // By a call: a drop in place has this proof go through each part of a machine.
+            drop(both);
+            status
+        }
         Err(_) => Exit::NoMemory.status(),
     }
 }

@@ -94,6 +94,8 @@ fn debug_inputs<H: Host>(
     match open_session(alloc, inputs, settings) {
         Ok(mut session) => {
             let written = write_replies(host, &mut session, text);
+            // By a call: a drop in place has this proof go through each part of a machine.
+            drop(session);
             end_written(written, Exit::Ended)
         }
         Err(_) => Exit::NoMemory.status(),

@@ -78,7 +78,10 @@ fn run_inputs<H: Host>(
         tables: results.machine.firm().bytes(),
         report: results.report.as_slice(),
     };
-    write_results(host, run, results.exit, &outputs)
+    let status = write_results(host, run, results.exit, &outputs);
+    // By a call: a drop in place has this proof go through each part of a machine.
+    drop(results);
+    status
 }
 
 // Reads what a run needs, runs it, and writes what comes of it.

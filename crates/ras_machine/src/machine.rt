@@ -80,21 +80,19 @@ impl Machine {
         ensures two_runs { IfOk result (λ m. (given : Given) (script : List ScriptLine)
             → IsScriptFor (ram_words s.now) script → StaysInStep image.now given script m) }
     {
+        let firmware = Firmware::make(alloc)?;
+        let console = Console::make(alloc)?;
+        let stack = stack_of(alloc, image.words())?;
         Ok(Machine {
             state: MachineState {
-                shared: Harts::make(
-                    alloc,
-                    stack_of(alloc, image.words())?,
-                    s.harts,
-                    image.entry(),
-                )?,
+                shared: Harts::make(alloc, stack, s.harts, image.entry())?,
                 turns: Turns::new(),
                 place: 0,
                 beyond: None,
-                firmware: Firmware::make(alloc)?,
+                firmware,
                 poll: Interval::new(s.poll),
                 patrol: Patrol::new(s.patrol, image.words().len() as u32),
-                console: Console::make(alloc)?,
+                console,
                 steps: 0,
             },
             settings: *s,

@@ -1,4 +1,5 @@
-use Rattle.std.proofs.Common.{◌<◌, length, arith}
+use Rattle.std.proofs.Common.{◌<◌, ◌≤◌, List, ℕ, length, arith, ap, ◌∙◌}
+use Rattle.mem_stack.specs.Stack.{loaded_stack}
 use Rattle.mem_stack.specs.StackLaws.{loaded_words, loaded_stands}
 use Rattle.ras_machine.proofs.Filled.{filled, filled-length, all_filled}
 use Rattle.ras_machine.proofs.loading.stack_of.Goals as goal
@@ -7,6 +8,11 @@ pub load-requires : goal.load-requires
 load-requires c =
     let inside : c.loop-w.w < length c.args.words.now = c.loop-w-test.true in
     rw (c.loop-w.invariant, loaded_words (filled c.args.words.now c.loop-w.w), filled-length c.args.words.now c.loop-w.w) inside
+
+pub returns-clause-loaded : goal.returns-clause-loaded
+returns-clause-loaded c =
+    let over : length c.args.words.now ≤ c.loop-w.w = let no_more = c.loop-w-test.false in omega arith in
+    c.loop-w.invariant ∙ ap (λ (words : List ℕ). loaded_stack words) (all_filled c.args.words.now c.loop-w.w over)
 
 pub returns-clause-stands : goal.returns-clause-stands
 returns-clause-stands c = λ q.

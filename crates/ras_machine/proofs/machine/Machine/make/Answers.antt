@@ -13,15 +13,15 @@ use Rattle.ras_machine.proofs.machine.Machine.make.Goals as goal
 pub returns-clause-two_runs : goal.returns-clause-two_runs
 returns-clause-two_runs c = λ given script fit.
     let stands : (q : ℕ → ℕ) → StackStands (loaded_stack c.args.image.now.words) (slice_index c.args.image.now.words) q =
-    rw (c.in_ok-stack_of.ensures.loaded, c.words.ensures.words) at c.in_ok-stack_of.ensures.stands in
+    rw (c.in_ok-stack.ensures.loaded, c.words.ensures.words) at c.in_ok-stack.ensures.stands in
     let fits : AllByRecursion (FitsRam (length c.args.image.now.words)) script = subst (λ words. AllByRecursion (FitsRam words) script) (sym c.requires.ram) fit.fit in
     rw (
-      c.in_ok-make-3.ensures,
+      c.in_ok-firmware.ensures,
       c.new-3.ensures,
       c.new-2.ensures,
-      c.in_ok-make-2.ensures,
+      c.in_ok-console.ensures,
       c.in_ok-make.ensures,
-      c.in_ok-stack_of.ensures.loaded,
+      c.in_ok-stack.ensures.loaded,
       c.entry.ensures.entry,
       c.words-2.ensures.words,
       c.words.ensures.words,
@@ -34,7 +34,7 @@ invariant_of-result c = (
   c.requires.range,
   omega arith,
   ap (λ (s : HartsState StackLines). stack_meaning.words s.memory) c.in_ok-make.ensures
-      ∙ ap (λ (s : StackLines). stack_meaning.words s) c.in_ok-stack_of.ensures.loaded
+      ∙ ap (λ (s : StackLines). stack_meaning.words s) c.in_ok-stack.ensures.loaded
       ∙ loaded_words c.words.result.now
       ∙ ap (λ words. length words) c.words.ensures.words
       ∙ c.requires.ram,
