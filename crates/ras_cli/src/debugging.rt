@@ -120,6 +120,10 @@ pub fn debug_command<H: Host>(alloc: Global, debug: DebugWords<'_>, host: &mut H
             let settings = settings_of(debug.machine);
             debug_inputs(alloc, inputs, &settings, text.as_slice(), host)
         }
-        Err(status) => status,
+        Err(status) => {
+            // By a call: a drop in place has this proof go through each part of what was read.
+            drop(inputs);
+            status
+        }
     }
 }

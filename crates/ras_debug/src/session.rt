@@ -103,11 +103,19 @@ impl Session {
         ensures { let given = given_by input.items schedule.items in
             IfOk result (λ s. s ≡ session_of m given script.lines) }
     {
-        Ok(Session {
-            running: Running::new(m, input, schedule, script),
-            breakpoints: ArrayVec::new(),
-            reply: Reply::make(alloc)?,
-        })
+        let running = Running::new(m, input, schedule, script);
+        match Reply::make(alloc) {
+            Ok(reply) => Ok(Session {
+                running,
+                breakpoints: ArrayVec::new(),
+                reply,
+            }),
+            Err(want) => {
+                // By a call: a drop in place has this proof go through each part of a machine.
+                drop(running);
+                Err(want)
+            }
+        }
     }
 
     /// Does what a line asks for, and says whether the session goes on. The reply is then
