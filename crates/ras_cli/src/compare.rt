@@ -75,7 +75,11 @@ fn run_both(alloc: Global, inputs: &Inputs, settings: &Settings) -> Result<Compa
         (flat_of inputs.now.image settings.now) lines (ending_in faulty) faulty.state)) }
 {
     let mut flat = Flat::make(alloc, &inputs.image, settings.budget, settings.harts)?;
-    let mut machine = Machine::make(alloc, &inputs.image, settings)?;
+    let Ok(mut machine) = Machine::make(alloc, &inputs.image, settings) else {
+        // By a call: a drop in place has this proof go through each part of a machine.
+        drop(flat);
+        return Err(NoMemory);
+    };
     let mut text = Report::new();
     let mut flat_text = Report::new();
     let input = inputs.input.as_slice();
@@ -85,7 +89,6 @@ fn run_both(alloc: Global, inputs: &Inputs, settings: &Settings) -> Result<Compa
     report(&machine, &ending, &mut text);
     flat_report(&flat, &flat_ending, &mut flat_text);
     let verdict = verdict(&machine, &ending, &flat, &flat_ending);
-    // By a call: a drop in place has this proof go through each part of a machine.
     drop(flat);
     Ok(Comparison {
         machine,

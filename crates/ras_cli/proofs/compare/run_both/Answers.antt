@@ -20,11 +20,11 @@ returns-clause-planned c = λ lines rising.
     let f = c.run_flat-flat_ending.new.self in
     let ran = rw (c.as_slice-input.ensures.value, c.as_slice-schedule.ensures.value) at c.run-ending.ensures.after in
     let flat_ran = rw (c.as_slice-input.ensures.value, c.as_slice-schedule.ensures.value) at c.run_flat-flat_ending.ensures.after in
-    let kept = settings_kept image settings given script c.in_ok-machine.machine m c.in_ok-machine.ensures.made ran in
+    let kept = settings_kept image settings given script c.in-Ok.machine m c.in-Ok.ensures.made ran in
     let ended = sym (ended_is m c.run-ending.result c.run-ending.ensures.ending) in
     both_are settings.harts m (faulty_run image settings given lines) (record { after = f.state; ending = c.run_flat-flat_ending.result }) (flat_whole given (flat_of image settings))
     m.state.console c.report.new.out.items c.flat_report.new.out.items c.verdict-verdict.result
-    (ran_is image settings given lines script c.in_ok-machine.machine m rising c.in_ok-machine.ensures.made ran)
+    (ran_is image settings given lines script c.in-Ok.machine m rising c.in-Ok.ensures.made ran)
     (flat_is image settings given c.in_ok-flat.flat f c.run_flat-flat_ending.result c.in_ok-flat.ensures flat_ran c.run_flat-flat_ending.ensures.ending)
     refl
     (c.report.ensures
@@ -38,7 +38,7 @@ returns-clause-keeps c = λ lines rising.
     let image = c.args.inputs.now.image in
     let script = c.args.inputs.now.script.lines in
     let given = given_by c.as_slice-input.result.now c.as_slice-schedule.result.now in
-    let stays = c.in_ok-machine.ensures.two_runs given script c.requires.script in
-    run_keeps image c.args.settings.now (given_by c.args.inputs.now.input.items c.args.inputs.now.schedule.items) lines script c.in_ok-machine.machine c.run-ending.new.self c.run-ending.result
-    rising c.in_ok-machine.ensures.made (rw (c.as_slice-input.ensures.value, c.as_slice-schedule.ensures.value) at c.run-ending.ensures.after) c.run-ending.ensures.ending
+    let stays = c.in-Ok.ensures.two_runs given script c.requires.script in
+    run_keeps image c.args.settings.now (given_by c.args.inputs.now.input.items c.args.inputs.now.schedule.items) lines script c.in-Ok.machine c.run-ending.new.self c.run-ending.result
+    rising c.in-Ok.ensures.made (rw (c.as_slice-input.ensures.value, c.as_slice-schedule.ensures.value) at c.run-ending.ensures.after) c.run-ending.ensures.ending
     (rw (c.as_slice-input.ensures.value, c.as_slice-schedule.ensures.value) at (c.run-ending.ensures.keeps image stays))
