@@ -126,12 +126,18 @@ impl Flat {
         ensures { IfOk result (λ flat. flat ≡ flat_made image.now budget harts) }
     {
         let memory = memory_of(alloc, image.words())?;
+        let harts = Harts::make(alloc, memory, harts, image.entry())?;
+        let Ok(console) = Console::make(alloc) else {
+            // By a call: a drop in place has this proof go through each part of the harts.
+            drop(harts);
+            return Err(NoMemory);
+        };
         Ok(Flat {
             parts: FlatParts {
-                harts: Harts::make(alloc, memory, harts, image.entry())?,
+                harts,
                 turns: Turns::new(),
                 place: 0,
-                console: Console::make(alloc)?,
+                console,
             },
             budget,
             ended: None,

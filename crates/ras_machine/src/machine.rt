@@ -80,12 +80,22 @@ impl Machine {
         ensures two_runs { IfOk result (λ m. (given : Given) (script : List ScriptLine)
             → IsScriptFor (ram_words s.now) script → StaysInStep image.now given script m) }
     {
-        let firmware = Firmware::make(alloc)?;
-        let console = Console::make(alloc)?;
         let stack = stack_of(alloc, image.words())?;
+        let shared = Harts::make(alloc, stack, s.harts, image.entry())?;
+
+        // By calls: drops in place have this proof go through each part of what is let go.
+        let Ok(firmware) = Firmware::make(alloc) else {
+            drop(shared);
+            return Err(NoMemory);
+        };
+        let Ok(console) = Console::make(alloc) else {
+            drop(shared);
+            drop(firmware);
+            return Err(NoMemory);
+        };
         Ok(Machine {
             state: MachineState {
-                shared: Harts::make(alloc, stack, s.harts, image.entry())?,
+                shared,
                 turns: Turns::new(),
                 place: 0,
                 beyond: None,

@@ -16,11 +16,11 @@ returns-clause-two_runs c = λ given script fit.
     rw (c.in_ok-stack.ensures.loaded, c.words.ensures.words) at c.in_ok-stack.ensures.stands in
     let fits : AllByRecursion (FitsRam (length c.args.image.now.words)) script = subst (λ words. AllByRecursion (FitsRam words) script) (sym c.requires.ram) fit.fit in
     rw (
-      c.in_ok-firmware.ensures,
+      c.in-Ok.ensures,
       c.new-3.ensures,
       c.new-2.ensures,
-      c.in_ok-console.ensures,
-      c.in_ok-make.ensures,
+      c.in-Ok-make.ensures,
+      c.in_ok-shared.ensures,
       c.in_ok-stack.ensures.loaded,
       c.entry.ensures.entry,
       c.words-2.ensures.words,
@@ -33,13 +33,13 @@ pub invariant_of-result : goal.invariant_of-result
 invariant_of-result c = (
   c.requires.range,
   omega arith,
-  ap (λ (s : HartsState StackLines). stack_meaning.words s.memory) c.in_ok-make.ensures
+  ap (λ (s : HartsState StackLines). stack_meaning.words s.memory) c.in_ok-shared.ensures
       ∙ ap (λ (s : StackLines). stack_meaning.words s) c.in_ok-stack.ensures.loaded
       ∙ loaded_words c.words.result.now
       ∙ ap (λ words. length words) c.words.ensures.words
       ∙ c.requires.ram,
   ap (λ (p : PatrolState). p.words) c.new-3.ensures ∙ ap (λ words. length words) c.words-2.ensures.words ∙ c.requires.ram,
-  ap (λ (s : HartsState StackLines). length s.harts) c.in_ok-make.ensures ∙ first_count c.args.s.now.harts c.entry.result c.requires.range.some_harts,
+  ap (λ (s : HartsState StackLines). length s.harts) c.in_ok-shared.ensures ∙ first_count c.args.s.now.harts c.entry.result c.requires.range.some_harts,
   c.new-2.ensures,
   ap (λ (p : PatrolState). p.every) c.new-3.ensures,
   tt,
