@@ -15,8 +15,9 @@ loop-w-preserved c =
     let words = c.args.words.now in
     let inside : c.loop-w.w < length words = c.loop-w-test.true in
     elim c.if-words-w-ne0.branch [
-      then-words-w-ne0 w ↦ w.stack-is ∙ w.load.ensures.loaded (filled words c.loop-w.w) c.loop-w.invariant ∙ ap (λ (l : List ℕ). loaded_stack l) (one_more_filled words c.loop-w.w 0 inside)
-    | else-words-w-ne0 w ↦ w.stack-is ∙ c.loop-w.invariant ∙ ap (λ (l : List ℕ). loaded_stack l) (zero_filled words c.loop-w.w 0 inside w.if-words-w-ne0.false) ]
+      | then-words-w-ne0 w ↦ w.stack-is ∙ w.load.ensures.loaded (filled words c.loop-w.w) c.loop-w.invariant ∙ ap (λ (l : List ℕ). loaded_stack l) (one_more_filled words c.loop-w.w 0 inside)
+      | else-words-w-ne0 w ↦ w.stack-is ∙ c.loop-w.invariant ∙ ap (λ (l : List ℕ). loaded_stack l) (zero_filled words c.loop-w.w 0 inside w.if-words-w-ne0.false)
+    ]
 
 pub returns-clause-loaded : goal.returns-clause-loaded
 returns-clause-loaded c =
